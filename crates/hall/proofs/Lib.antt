@@ -1,0 +1,40 @@
+-- The laws of the definitions in specs/, from the bottom up. The laws of plans (those that end in -listed, and what they cite) use of a job that its order lists each
+-- carrier once, and not that starts or goals differ.
+--     numbers       Ints, Left, Answers, Lowest, Test
+--     the floor     Walks, Lists, Paths, Pigeon, Labels, FloorTests, Decide, House
+--     the rule      Rules, Ranges, Safe, Ticks, TickTests
+--     refusals      Refusals, FaultTests, FirstFault, Complete, Sound, WellFormed
+--     plans         Demand, PlanLaws, Exist, Summit
+--     P1 to P11     JobTests, Cases, CaseRemarks, Outcomes
+pub mod Ints
+pub mod Walks
+pub mod Lists
+pub mod Paths
+pub mod Rules
+pub mod Test
+pub mod Safe
+pub mod Pigeon
+pub mod Ranges
+pub mod Labels
+pub mod Ticks
+pub mod Refusals
+pub mod Left
+pub mod Sound
+pub mod Demand
+pub mod PlanLaws
+pub mod Lowest
+pub mod TickTests
+pub mod FaultTests
+pub mod FloorTests
+pub mod Decide
+pub mod House
+pub mod Exist
+pub mod FirstFault
+pub mod Complete
+pub mod WellFormed
+pub mod Summit
+pub mod Answers
+pub mod JobTests
+pub mod Outcomes
+pub mod Cases
+pub mod CaseRemarks

@@ -1,0 +1,58 @@
+-- Floors, walks and distances (page 01, "Network, moves and time"). Nothing here names a search.
+--     Floor               which numbers are nodes, and which two numbers a lane joins. `Joined` is over all numbers, nodes or not: it is a walk that stands on
+--                         nodes. Every definition of walks and paths speaks of a floor, so that a floor with closed nodes needs no others
+--     Symmetric F         a lane "runs both ways": what joins a to b joins b to a. That it joins two different nodes is a check's (`LaneFault`, Refusals.antt)
+--     Walk F a b n        a walk of n lanes from a to b. Each of its n + 1 numbers is a node, that of a walk of no lanes too
+--     Dist F a b d        "The distance of two nodes is the least number of lanes in a walk between them"
+--     NoWalk F a b        no walk joins a and b
+--     DistanceIs F a b r  "A distance is 0 to 1,023, or 65,535 for 'no walk'": the number r stands for the distance of a and b
+--     laneCount           a lane list has two numbers a lane
+--     lower, higher       the first and the second number of lane k: "Lanes stand as (lower, higher)"
+--     Lane lanes a b      a lane of the list joins a and b, whichever of them stands first
+--     floorOf n lanes     "Nodes are numbered from 0": the numbers below n, and the lanes of the list
+use mathlib.Core.Path.{_≡_}
+use mathlib.Core.Logic.{_⊎_}
+use mathlib.Core.List.{List}
+use Prim.Native.Nat.{ℕ, zero, suc, _+_, _*_, _/_, _≤_, _<_}
+use lib.ListN.{length, getD}
+
+pub record Floor : Type 1 where
+  pub Node : ℕ → Type 0
+  pub Joined : ℕ → ℕ → Type 0
+
+abbrev pub Symmetric : Floor → Type 0
+Symmetric F = (a b : ℕ) → F .Joined a b → F .Joined b a
+
+pub data Walk (F : Floor) : ℕ → ℕ → ℕ → Type 0 where
+  here : {a : ℕ} → F .Node a → Walk F a a zero
+  step : {a b c n : ℕ} → F .Node a → F .Joined a b → Walk F b c n → Walk F a c (suc n)
+
+pub record Dist (F : Floor) (a b d : ℕ) : Type 0 where
+  pub walk : Walk F a b d
+  pub least : (n : ℕ) → Walk F a b n → d ≤ n
+
+abbrev pub NoWalk : Floor → ℕ → ℕ → Type 0
+NoWalk F a b = (n : ℕ) → ¬ Walk F a b n
+
+pub data DistanceIs (F : Floor) (a b r : ℕ) : Type 0 where
+  no-walk : r ≡ 65535 → NoWalk F a b → DistanceIs F a b r
+  distance : r ≤ 1023 → Dist F a b r → DistanceIs F a b r
+
+-- ---- the floor of a network
+
+abbrev pub laneCount : List ℕ → ℕ
+laneCount lanes = length lanes / 2
+
+abbrev pub lower : List ℕ → ℕ → ℕ
+lower lanes k = getD lanes (2 * k) 0
+
+abbrev pub higher : List ℕ → ℕ → ℕ
+higher lanes k = getD lanes (2 * k + 1) 0
+
+pub record Lane (lanes : List ℕ) (a b : ℕ) : Type 0 where
+  pub k : ℕ
+  pub inside : k < laneCount lanes
+  pub ends : ((lower lanes k ≡ a) × (higher lanes k ≡ b)) ⊎ ((lower lanes k ≡ b) × (higher lanes k ≡ a))
+
+abbrev pub floorOf : ℕ → List ℕ → Floor
+floorOf n lanes = record { Node = λ v. v < n; Joined = Lane lanes }

@@ -1,0 +1,60 @@
+-- Start ticks (page 01, "The safe-delay rule for a pair", last paragraph). They speak of distances and an order, and of no network.
+--     SmallestFrom        x is the smallest of the permitted ticks that are not before a given tick: "the smallest tick from 0 up that is permitted", with any tick in
+--                         the place of 0 and any statement of what is permitted
+--     PermittedBy         tick x is permitted against the first n of some carriers that are already placed, each with the pair that it makes with the
+--                         new one (the placed one is i, the new one j) and with its own start tick
+--     Tables              the three tables of distances by carrier numbers: start to start, start to goal (i's start, j's goal), goal to goal
+--     own                 a carrier's own distance
+--     pairOf t i j        the six distances of carriers i and j
+--     PermittedAt         the same for the carrier at place q of an order, against those at the places before q
+--     StartTicks          "Each next one gets the smallest tick from 0 up that is permitted against every carrier placed before it". That the first
+--                         starts at tick 0 follows: `first-at-zero` (proofs/Ticks.antt)
+--     goalTick            start tick plus distance, t + d: the last tick at which a carrier is on the floor
+--     latest              the latest of the goal ticks at the places before q, 0 if q is 0
+--     total, costOf       the cost is the sum of the goal ticks (source document 000, Definition 2: the sum over the agents of their arrival times)
+use mathlib.Core.Path.{_≡_}
+use mathlib.Core.List.{List}
+use Prim.Native.Nat.{ℕ, zero, suc, _+_, _≤_, _<_, max}
+use lib.ListN.{length, getD}
+use lib.IntN.{pos, _-ℤ_}
+use Rattle.hall.specs.Rule.{Pair, Permitted}
+
+pub record SmallestFrom (from : ℕ) (Permits : ℕ → Type 0) (x : ℕ) : Type 0 where
+  pub not-before : from ≤ x
+  pub permitted : Permits x
+  pub least : (y : ℕ) → from ≤ y → Permits y → x ≤ y
+
+unfoldable pub PermittedBy : (n : ℕ) (pair : ℕ → Pair) (tick : ℕ → ℕ) → ℕ → Type 0
+PermittedBy n pair tick x = (p : ℕ) → p < n → Permitted (pair p) (pos x -ℤ pos (tick p))
+
+pub record Tables : Type 0 where
+  pub ss : ℕ → ℕ → ℕ
+  pub sg : ℕ → ℕ → ℕ
+  pub gg : ℕ → ℕ → ℕ
+
+abbrev pub own : Tables → ℕ → ℕ
+own t i = t .sg i i
+
+abbrev pub pairOf : Tables → ℕ → ℕ → Pair
+pairOf t i j = record { ss = t .ss i j; gg = t .gg i j; ii = t .sg i i; jj = t .sg j j; ij = t .sg i j; ji = t .sg j i }
+
+-- tick x is permitted to the carrier at place q against every carrier placed before it; `tick i` is carrier i's start tick
+abbrev pub PermittedAt : (t : Tables) (order : List ℕ) (tick : ℕ → ℕ) → ℕ → ℕ → Type 0
+PermittedAt t order tick q = PermittedBy q (λ p. pairOf t (getD order p 0) (getD order q 0)) (λ p. tick (getD order p 0))
+
+pub record StartTicks (t : Tables) (order : List ℕ) (tick : ℕ → ℕ) : Type 0 where
+  pub smallest : (q : ℕ) → q < length order → SmallestFrom 0 (PermittedAt t order tick q) (tick (getD order q 0))
+
+abbrev pub goalTick : Tables → (ℕ → ℕ) → ℕ → ℕ
+goalTick t tick i = tick i + own t i
+
+unfoldable pub latest : (order : List ℕ) (goal-tick : ℕ → ℕ) → ℕ → ℕ
+latest order goal-tick zero = 0
+latest order goal-tick (suc q) = max (latest order goal-tick q) (goal-tick (getD order q 0))
+
+unfoldable pub total : ℕ → (ℕ → ℕ) → ℕ
+total zero f = 0
+total (suc k) f = total k f + f k
+
+abbrev pub costOf : Tables → (ℕ → ℕ) → ℕ → ℕ
+costOf t tick k = total k (goalTick t tick)

@@ -1,0 +1,113 @@
+// The types that every crate shares, in the words of page 01: a job's counts with their limits, a place in the order, a carrier's number, faults and refusals. The
+// mathematics that they speak about stands in specs/, its laws in proofs/. Nothing here refuses or searches; the one function that writes is in zero.rt.
+ghost use mathlib.Core.Path.{_≡_};
+ghost use lib.ListN.{getD};
+ghost use denote.Ref.{now};
+ghost use Rattle.hall.specs.Refusals.{numberOf};
+ghost use Rattle.hall.specs.Limits.{largestJob, emptyJob};
+
+pub mod zero;
+
+// The counts of a job: what reading an accepted text answers.
+pub struct Job {
+    pub nodes: usize,
+    pub lanes: usize,
+    pub carriers: usize,
+}
+
+impl Job {
+    pub const NODES: usize = 1024;
+
+    pub const LANES: usize = 4096;
+
+    pub const CARRIERS: usize = 64;
+
+    // The counts at the limits: whatever is past one of them is refused.
+    pub fn largest() -> Self
+        ensures { λ r. ⌜ r ≡ largestJob ⌝ }
+    {
+        Job {
+            nodes: Job::NODES,
+            lanes: Job::LANES,
+            carriers: Job::CARRIERS,
+        }
+    }
+
+    // A job without carriers. A hall has a node at least, so it has one, and no lane.
+    pub fn empty() -> Self
+        ensures { λ r. ⌜ r ≡ emptyJob ⌝ }
+    {
+        Job {
+            nodes: 1,
+            lanes: 0,
+            carriers: 0,
+        }
+    }
+}
+
+// A place in the order: place 0 goes first.
+pub struct Place(pub usize);
+
+// A carrier's number.
+pub struct Carrier(pub u16);
+
+impl Place {
+    // The carrier at this place, in an order that lists carrier numbers by place. Past the order's end it is carrier 0.
+    pub fn carrier(self, order: &[u16]) -> Carrier
+        ensures { λ r. ⌜ r .0 ≡ getD (now (order .entry)) (self .0) 0 ⌝ }
+    {
+        let place = self.0;
+        if place < order.len() {
+            return Carrier(order[place]);
+        }
+        Carrier(0)
+    }
+}
+
+// Why a question is refused: one variant for each refusal number of the page, in its order.
+pub enum Fault {
+    Malformed,
+    BadCount,
+    BadLane,
+    OffFloor,
+    SameEnds,
+    SharedEnd,
+    BadOrder,
+    Unreachable,
+    ShortTable,
+    NoCarrier,
+    NotShortest,
+}
+
+impl Fault {
+    // The page's number of a fault.
+    pub fn number(self) -> u8
+        ensures { λ r. ⌜ r ≡ numberOf self ⌝ }
+    {
+        match self {
+            Fault::Malformed => 1,
+            Fault::BadCount => 2,
+            Fault::BadLane => 3,
+            Fault::OffFloor => 4,
+            Fault::SameEnds => 5,
+            Fault::SharedEnd => 6,
+            Fault::BadOrder => 7,
+            Fault::Unreachable => 8,
+            Fault::ShortTable => 9,
+            Fault::NoCarrier => 10,
+            Fault::NotShortest => 11,
+        }
+    }
+}
+
+// A refusal: the fault, with its line in a text or its place among the numbers.
+pub struct Refusal {
+    pub fault: Fault,
+    pub place: usize,
+}
+
+// What a check answers.
+pub enum Checked {
+    Sound,
+    Refused(Refusal),
+}
