@@ -1,0 +1,105 @@
+-- `network::checks::shares_end` meets its contract. The invariant: none of the moves before `earlier` has the start or the goal of the move i. The measure
+-- is how many moves are left before i. Assumes nothing.
+use mathlib.Core.Logic.{inl, inr}
+use Prim.Native.Nat.{ℕ, _-_, _≤_, _<_}
+use native.Mathlib.Omega.{arith}
+use borrow.Author.Needs.{needs}
+use borrow.Author.Count.{below-more}
+use Rattle.network.proofs.Places.{ShareEnd, ends-own}
+use Rattle.network.proofs.checks.shares_end.Statement.{statement}
+use Rattle.network.proofs.checks.shares_end.Tie as tie
+
+abbrev Inv-loop : tie.InvT-loop
+Inv-loop moves i at start goal earlier₀ earlier = (earlier ≤ i) × ((e : ℕ) → e < earlier → ¬ ShareEnd moves e i)
+
+abbrev μ-loop : tie.MeasureT-loop
+μ-loop moves i at start goal earlier₀ earlier = i - earlier
+
+mul-at : tie.Need-mul-at Inv-loop μ-loop
+mul-at c = search needs
+
+mul-start : tie.Need-mul-start Inv-loop μ-loop
+mul-start c = search needs
+
+shared-slice-read-start : tie.Need-shared-slice-read-start Inv-loop μ-loop
+shared-slice-read-start c = search needs
+
+add-goal : tie.Need-add-goal Inv-loop μ-loop
+add-goal c = search needs
+
+mul-goal : tie.Need-mul-goal Inv-loop μ-loop
+mul-goal c = search needs
+
+shared-slice-read-goal : tie.Need-shared-slice-read-goal Inv-loop μ-loop
+shared-slice-read-goal c = search needs
+
+loop-holds : tie.Need-loop-holds Inv-loop μ-loop
+loop-holds c = (omega arith, λ e l s. omega arith)
+
+mul-there : tie.Need-mul-there Inv-loop μ-loop
+mul-there c = search needs
+
+mul-if1 : tie.Need-mul-if1 Inv-loop μ-loop
+mul-if1 c = search needs
+
+shared-slice-read-if1 : tie.Need-shared-slice-read-if1 Inv-loop μ-loop
+shared-slice-read-if1 c = search needs
+
+returns : tie.Need-returns Inv-loop μ-loop
+returns c =
+    let in-loop = c .before .before in
+    record { earlier = in-loop .before .loop .earlier; before = in-loop .loop-test .taken; shares = inl (c .if1 .taken) }
+
+add-if2 : tie.Need-add-if2 Inv-loop μ-loop
+add-if2 c = search needs
+
+mul-if2 : tie.Need-mul-if2 Inv-loop μ-loop
+mul-if2 c = search needs
+
+shared-slice-read-if2 : tie.Need-shared-slice-read-if2 Inv-loop μ-loop
+shared-slice-read-if2 c = search needs
+
+returns-2 : tie.Need-returns-2 Inv-loop μ-loop
+returns-2 c =
+    let in-loop = c .before .before .before .before in
+    record { earlier = in-loop .before .loop .earlier; before = in-loop .loop-test .taken; shares = inr (c .if2 .taken) }
+
+add-earlier : tie.Need-add-earlier Inv-loop μ-loop
+add-earlier c = search needs
+
+loop-less : tie.Need-loop-less Inv-loop μ-loop
+loop-less c = search needs
+
+loop-again : tie.Need-loop-again Inv-loop μ-loop
+loop-again c =
+    let loop = c .before .before .before .before .before in
+    (omega arith, below-more _ _ (loop .loop .inv .1) (λ s. elim s [ inl x ↦ c .before .before .if1 .left x | inr x ↦ c .if2 .left x ]))
+
+returns-3 : tie.Need-returns-3 Inv-loop μ-loop
+returns-3 c = ends-own (λ e l. c .before .loop .inv .1 e (omega (arith, c .loop-test .left)))
+
+pub shares-end-spec : {M : Type 1} → statement M
+shares-end-spec =
+    tie.close
+    (tie.spec
+    Inv-loop
+    μ-loop
+    mul-at
+    mul-start
+    shared-slice-read-start
+    add-goal
+    mul-goal
+    shared-slice-read-goal
+    loop-holds
+    mul-there
+    mul-if1
+    shared-slice-read-if1
+    returns
+    add-if2
+    mul-if2
+    shared-slice-read-if2
+    returns-2
+    add-earlier
+    loop-less
+    loop-again
+    returns-3)
