@@ -1,0 +1,8 @@
+-- The laws behind the promises, from one stretch to the whole search, and what callers use: Carry, Bound, Unique.
+pub mod Stretch
+pub mod StretchEnd
+pub mod Reach
+pub mod Work
+pub mod Carry
+pub mod Bound
+pub mod Unique

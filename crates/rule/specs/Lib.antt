@@ -1,0 +1,3 @@
+-- What the crate's promises say beyond the definitions of `hall`.
+pub mod Held
+pub mod Reach

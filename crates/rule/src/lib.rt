@@ -1,0 +1,139 @@
+// The safe-delay rule of page 01 on plain numbers, and the first tick that it leaves free. Nothing here refuses: every number of the
+// types is served, and the sums are made in u64, where none of them can overflow. 8,589,934,591 is the largest tick that comes up: one past
+// the latest goal tick that a start tick and a distance of 32 bits can make.
+//
+// Work of `first_tick` against k held carriers: a carrier moves the tick at most once, since it permits every tick after the move. So at
+// most k sweeps change the tick, one more changes nothing, and each makes k pair tests: k (k + 1) tests at most, 4,032 for the 63 carriers
+// before the last one of a job. That the sweeps are so few is proved: it is the measure of the loop (proofs/Work.antt).
+ghost use Prim.Native.Nat.{_+_, _*_, _/_, _≤_, _<_};
+ghost use lib.IntN.{pos, _-ℤ_};
+ghost use lib.ListN.{length};
+ghost use denote.Ref.{now};
+ghost use Rattle.hall.specs.Rule.{Forbidden, Permitted, pair6, Answers};
+ghost use Rattle.hall.specs.Ticks.{SmallestFrom, PermittedBy};
+ghost use Rattle.rule.specs.Held.{heldPair, heldTick};
+ghost use Rattle.rule.specs.Reach.{Swept};
+
+// Whether the rule forbids that i starts at ti and j at tj, with additions only.
+fn forbidden(ss: u32, gg: u32, ii: u32, jj: u32, ij: u32, ji: u32, ti: u32, tj: u64) -> bool
+    requires { ⌜ tj ≤ 8589934591 ⌝ }
+    ensures { λ r. ⌜ Answers r (Forbidden (pair6 ss gg ii jj ij ji) (pos tj -ℤ pos ti)) ⌝ }
+{
+    let starts_goals = ss as u64 + gg as u64;
+    let owns = ii as u64 + jj as u64;
+    let low = ti as u64 + ij as u64;
+    let low_end = tj + jj as u64;
+    let high = tj + ji as u64;
+    let high_end = ti as u64 + ii as u64;
+    let parity = (ti as u64 + tj + ss as u64) % 2;
+    if ss == 65535 {
+        return false;
+    }
+    if starts_goals > owns {
+        return false;
+    }
+    if low > low_end {
+        return false;
+    }
+    if high > high_end {
+        return false;
+    }
+    if starts_goals < owns {
+        return true;
+    }
+    if parity == 0 {
+        return true;
+    }
+    if low == low_end {
+        return false;
+    }
+    if high == high_end {
+        return false;
+    }
+    true
+}
+
+// Whether the rule forbids that i starts at tick ti and j at tick tj, where the six numbers are the pair's distances.
+pub fn forbids(ss: u16, gg: u16, ii: u16, jj: u16, ij: u16, ji: u16, ti: u32, tj: u32) -> bool
+    ensures { λ r. ⌜ Answers r (Forbidden (pair6 ss gg ii jj ij ji) (pos tj -ℤ pos ti)) ⌝ }
+{
+    forbidden(
+        ss as u32,
+        gg as u32,
+        ii as u32,
+        jj as u32,
+        ij as u32,
+        ji as u32,
+        ti,
+        tj as u64,
+    )
+}
+
+// The smallest tick from a given one up that a single held carrier permits, in one jump past its stretch. Its last tick is free already
+// where the exception holds there.
+fn free_from(ss: u32, gg: u32, ii: u32, jj: u32, ij: u32, ji: u32, ti: u32, from: u64) -> u64
+    requires { ⌜ from ≤ 8589934591 ⌝ }
+    ensures { λ r. ⌜ SmallestFrom from (λ x. Permitted (pair6 ss gg ii jj ij ji) (pos x -ℤ pos ti)) r ⌝ }
+{
+    let starts_goals = ss as u64 + gg as u64;
+    let owns = ii as u64 + jj as u64;
+    let high_end = ti as u64 + ii as u64;
+    if !forbidden(ss, gg, ii, jj, ij, ji, ti, from) {
+        return from;
+    }
+    let last = high_end - ji as u64;
+    let end_parity = (ti as u64 + last + ss as u64) % 2;
+    let after = last + 1;
+    if starts_goals < owns {
+        return after;
+    }
+    if end_parity == 0 {
+        return after;
+    }
+    last
+}
+
+// The same for the carrier that is held at a place.
+fn free_at(held: &[u32], place: usize, from: u64) -> u64
+    requires { ⌜ (7 * place + 6 < length (now held)) × (from ≤ 8589934591) ⌝ }
+    ensures { λ r. ⌜ SmallestFrom from (λ x. Permitted (heldPair (now (held .entry)) place) (pos x -ℤ pos (heldTick (now (held .entry)) place))) r ⌝ }
+{
+    let at = 7 * place;
+    let ti = held[at];
+    let ss = held[at + 1];
+    let gg = held[at + 2];
+    let ii = held[at + 3];
+    let jj = held[at + 4];
+    let ij = held[at + 5];
+    let ji = held[at + 6];
+    free_from(ss, gg, ii, jj, ij, ji, ti, from)
+}
+
+// One pass over the held carriers: each moves the tick on to the first that it permits.
+fn sweep(held: &[u32], from: u64) -> u64
+    requires { ⌜ from ≤ 8589934591 ⌝ }
+    ensures { λ r. ⌜ Swept (now (held .entry)) from r ⌝ }
+{
+    let count = held.len() / 7;
+    let mut tick = from;
+    let mut place = 0;
+    while place < count {
+        tick = free_at(held, place, tick);
+        place += 1;
+    }
+    tick
+}
+
+// The smallest tick from a given one up that every held carrier permits. Seven numbers stand for each: its start tick, then the six
+// distances of the pair that it makes with the new carrier, as in `forbids`. What is left over after the last seven is not read.
+pub fn first_tick(held: &[u32], from: u32) -> u64
+    ensures { λ r. ⌜ SmallestFrom from (PermittedBy (length (now (held .entry)) / 7) (heldPair (now (held .entry))) (heldTick (now (held .entry)))) r ⌝ }
+{
+    let mut tick = from as u64;
+    let mut next = sweep(held, tick);
+    while tick < next {
+        tick = next;
+        next = sweep(held, tick);
+    }
+    tick
+}
