@@ -1,0 +1,3 @@
+-- What the distance table of a job holds.
+pub mod Filling
+pub mod Blocks

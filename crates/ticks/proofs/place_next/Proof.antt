@@ -1,0 +1,97 @@
+-- `ticks::place_next` meets its contract. The gathered list permits what the carriers placed before q permit (`lent-smallest`), so the first tick by it is
+-- the smallest tick at place q. It is early (`next-early`), so it fits 32 bits. It is written at the carrier's number, which is below 64. There is no loop.
+-- Assumes nothing.
+use Prim.Native.Nat.{ℕ, _*_, _≤_, _<_}
+use native.Mathlib.Omega.{arith}
+use lib.ListN.{length, getD, set}
+use lib.Seq.{length-take-le}
+use mathlib.Core.Path.{_≡_, sym, ap}
+use Rattle.hall.specs.Ticks.{SmallestFrom, PermittedAt}
+use Rattle.hall.specs.Plan.{tablesIn}
+use Rattle.ticks.proofs.Order.{number-below}
+use Rattle.ticks.proofs.Gathering.{lent-smallest}
+use Rattle.ticks.proofs.Places.{next-early}
+use borrow.Author.Needs.{needs}
+use Rattle.ticks.proofs.place_next.Statement.{statement}
+use Rattle.ticks.proofs.place_next.Tie as tie
+
+-- the first tick by the gathered list is the smallest at the place
+smallest : (c : tie.After-struct-known) → let a = c .before .before .before .before .before .before .before .before .before .before .before .args in
+    SmallestFrom 0 (PermittedAt (tablesIn (a .table .now)) (a .order .now) (λ i. getD (a .ticks .now) i 0) (a .q)) (c .before .before .first-tick .result)
+smallest c =
+    let start = c .before .before .before .before .before .before .before .before .before .before .before in
+    let a = start .args in
+    let gather = c .before .before .before .before .before .gather in
+    lent-smallest (a .table .now) (a .order .now) (a .ticks .now) _ (gather .last .1 .1 .1 .1 .0) (a .q) (gather .ensures)
+    (omega (arith, gather .ensures .as-many, start .pre .0 .few-places, start .pre .1)) (c .before .before .first-tick .ensures)
+
+early : (c : tie.After-struct-known) → c .before .before .first-tick .result ≤ 65536 * c .before .before .before .before .before .before .before .before .before .before .before .args .q
+early c =
+    let start = c .before .before .before .before .before .before .before .before .before .before .before in
+    let a = start .args in
+    let known = c .before .before .before .before .before .before .before .before .before .before .shared-slice-known .given in
+    next-early (a .table .now) (a .order .now) (a .ticks .now) (a .q) (λ k. omega (arith, known k)) (start .pre .2) (smallest c)
+
+slice-aggregate-gather : tie.Need-slice-aggregate-gather
+slice-aggregate-gather c = search needs
+
+gather-requires : tie.Need-gather-requires
+gather-requires c κs = search needs
+
+mul-end : tie.Need-mul-end
+mul-end c = search needs
+
+array-share-prefix-held : tie.Need-array-share-prefix-held
+array-share-prefix-held c = search needs
+
+slice-aggregate-first-tick : tie.Need-slice-aggregate-first-tick
+slice-aggregate-first-tick c =
+    let start = c .before .before .before .before .before .before .before .before in
+    let gather = c .before .before .gather in
+    sym (length-take-le (7 * start .args .q) (gather .last .1 .1 .1 .1 .0) (omega (arith, gather .ensures .as-many, start .pre .0 .few-places, start .pre .1)))
+
+first-tick-requires : tie.Need-first-tick-requires
+first-tick-requires c κs = search needs
+
+carrier-requires : tie.Need-carrier-requires
+carrier-requires c κs = search needs
+
+cast-j : tie.Need-cast-j
+cast-j c = search needs
+
+cast-ticks : tie.Need-cast-ticks
+cast-ticks c = let start = c .before .before .before .before .before .before .before .before .before .before .before in omega (arith, early c, start .pre .0 .few-places, start .pre .1)
+
+mul-ticks : tie.Need-mul-ticks
+mul-ticks c = search needs
+
+slice-write-ticks : tie.Need-slice-write-ticks
+slice-write-ticks c =
+    let start = c .before .before .before .before .before .before .before .before .before .before .before in omega (arith, number-below (start .pre .0) (start .args .q) (start .pre .1) (c .before .carrier .ensures), start .pre .0 .enough-room)
+
+same-length : tie.Need-same-length
+same-length c = search needs
+
+returns : tie.Need-returns
+returns c =
+    let ticks = c .before .before .before .before .before .before .before .before .before .before .before .args .ticks .now in
+    let first = c .before .before .first-tick in
+    record { tick = first .result; smallest = smallest c; early = early c; written = ap (λ (n : ℕ). set ticks n (first .result)) (c .before .carrier .ensures) }
+
+pub place-next-spec : {M : Type 1} → statement M
+place-next-spec =
+    tie.close
+    (tie.spec
+    slice-aggregate-gather
+    gather-requires
+    mul-end
+    array-share-prefix-held
+    slice-aggregate-first-tick
+    first-tick-requires
+    carrier-requires
+    cast-j
+    cast-ticks
+    mul-ticks
+    slice-write-ticks
+    same-length
+    returns)

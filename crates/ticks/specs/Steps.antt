@@ -1,0 +1,48 @@
+-- What the steps of placing promise to one another. No public promise cites them.
+--     heldWith       the held list with a carrier written at a place: its start tick, then the six distances of its pair with the new one (see crate rule,
+--                    specs/Held.antt)
+--     HeldAt         what is held at place p is the start tick of the carrier at place p of the order, and its pair with the carrier at place q
+--     Gathered       so for the first n places
+--     Early          the carrier at place p, before q, starts at tick 65,536 p at the latest, whatever the table holds
+--     EarlyAll       so every one of k carriers, at most 64 in number, starts at tick 65,536 × 63 at the latest
+--     PlacedNext     the carrier at place q has got the smallest tick that the carriers placed before it permit, and nothing else changed
+--     PlacedTo       the carriers at the places before q have their start ticks; all other numbers are as they came
+use mathlib.Core.Path.{_≡_}
+use mathlib.Core.Logic.{_≢_}
+use mathlib.Core.List.{List, [], _∷_}
+use Prim.Native.Nat.{ℕ, _*_, _≤_, _<_}
+use lib.ListN.{length, getD, set}
+use lib.Seq.{sets}
+use Rattle.hall.specs.Rule.{Pair}
+use Rattle.hall.specs.Ticks.{SmallestFrom, PermittedAt, pairOf}
+use Rattle.hall.specs.Plan.{tablesIn}
+use Rattle.rule.specs.Held.{heldTick, heldPair}
+
+unfoldable pub heldWith : List ℕ → ℕ → ℕ → Pair → List ℕ
+heldWith held place tick p = sets held (7 * place) (tick ∷ p .ss ∷ p .gg ∷ p .ii ∷ p .jj ∷ p .ij ∷ p .ji ∷ [])
+
+pub record HeldAt (table order ticks held : List ℕ) (q p : ℕ) : Type 0 where
+  pub tick-is : heldTick held p ≡ getD ticks (getD order p 0) 0
+  pub pair-is : heldPair held p ≡ pairOf (tablesIn table) (getD order p 0) (getD order q 0)
+
+pub record Gathered (table order ticks held held′ : List ℕ) (q n : ℕ) : Type 0 where
+  pub as-many : length held′ ≡ length held
+  pub each : (p : ℕ) → p < n → HeldAt table order ticks held′ q p
+
+pub record Early (order ticks : List ℕ) (q : ℕ) : Type 0 where
+  pub by-place : (p : ℕ) → p < q → getD ticks (getD order p 0) 0 ≤ 65536 * p
+
+pub record EarlyAll (ticks : List ℕ) (k : ℕ) : Type 0 where
+  pub by-number : (i : ℕ) → i < k → getD ticks i 0 ≤ 4128768
+
+pub record PlacedNext (table order ticks ticks′ : List ℕ) (q : ℕ) : Type 0 where
+  pub tick : ℕ
+  pub smallest : SmallestFrom 0 (PermittedAt (tablesIn table) order (λ i. getD ticks i 0) q) tick
+  pub early : tick ≤ 65536 * q
+  pub written : ticks′ ≡ set ticks (getD order q 0) tick
+
+pub record PlacedTo (table order ticks ticks′ : List ℕ) (q : ℕ) : Type 0 where
+  pub as-many : length ticks′ ≡ length ticks
+  pub smallest : (p : ℕ) → p < q → SmallestFrom 0 (PermittedAt (tablesIn table) order (λ i. getD ticks′ i 0) p) (getD ticks′ (getD order p 0) 0)
+  pub early : Early order ticks′ q
+  pub others : (i : ℕ) → ((p : ℕ) → p < q → getD order p 0 ≢ i) → getD ticks′ i 0 ≡ getD ticks i 0
