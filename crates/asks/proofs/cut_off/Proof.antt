@@ -1,0 +1,57 @@
+-- `asks::cut_off` meets its contract: the walk serves a start that is a node, so the row has the goal's distance from there, and 65,535 stands for no
+-- walk. Assumes nothing.
+use mathlib.Core.Path.{_≡_}
+use mathlib.Core.Logic.{_≢_}
+use Prim.Native.Nat.{ℕ}
+use native.Mathlib.Omega.{arith}
+use lib.ListN.{getD}
+use borrow.Author.Needs.{needs}
+use Rattle.hall.specs.Floor.{Floor, NoWalk, DistanceIs, no-walk, distance, floorOf}
+use Rattle.walk.proofs.WalkRow.{rowed-served}
+use Rattle.asks.proofs.cut_off.Statement.{statement}
+use Rattle.asks.proofs.cut_off.Tie as tie
+
+-- the mark stands for no walk, and no other number does
+marked-none : {F : Floor} {a b r : ℕ} → DistanceIs F a b r → r ≡ 65535 → NoWalk F a b
+marked-none (no-walk e none) h = none
+marked-none (distance small d) h = absurd (let x : ⊥ = omega arith in x)
+
+unmarked-some : {F : Floor} {a b r : ℕ} → DistanceIs F a b r → r ≢ 65535 → ¬ NoWalk F a b
+unmarked-some (no-walk e none) h = absurd (h e)
+unmarked-some {r = r} (distance small d) h = λ none. none r (d .walk)
+
+-- the distance that the walk has left at the goal
+goal-distance : (c : tie.After-row2) → let args = c .before .before .before .before .args in
+    DistanceIs (floorOf (args .nodes) (args .lanes .now)) (args .start) (args .goal) (getD (c .before .distances .last .1 .1 .1 .0) (args .goal) 0)
+goal-distance c =
+    let pre = c .before .before .before .before .pre in
+    rowed-served (record { few = pre .0; on-floor = pre .1; wide = search needs }) (c .before .distances .ensures) .1 .holds _ (pre .2)
+
+slice-aggregate-distances : tie.Need-slice-aggregate-distances
+slice-aggregate-distances c = search needs
+
+distances-requires : tie.Need-distances-requires
+distances-requires c κs = search needs
+
+mul-distance : tie.Need-mul-distance
+mul-distance c = search needs
+
+array-read-distance : tie.Need-array-read-distance
+array-read-distance c = search needs
+
+returns : tie.Need-returns
+returns c = marked-none (goal-distance (c .before)) (c .if1 .taken)
+
+returns-2 : tie.Need-returns-2
+returns-2 c = unmarked-some (goal-distance (c .before)) (c .if1 .left)
+
+pub cut-off-spec : {M : Type 1} → statement M
+cut-off-spec =
+    tie.close
+    (tie.spec
+    slice-aggregate-distances
+    distances-requires
+    mul-distance
+    array-read-distance
+    returns
+    returns-2)

@@ -1,0 +1,148 @@
+// Questions about one carrier of a whole job, from numbers (page 01, "Paths" and "Refusal numbers"): the house path of its move, and whether a
+// proposed list is a shortest path of that move. Any numbers may be put. The whole job is checked first, the walks of all its carriers too, then the
+// number named; what is left is the question with a network and a move, which the crate `path` answers.
+//
+// Cost: a distance walk for each carrier, at most 64, and then that of the question itself.
+use hall::Carrier;
+use hall::Checked;
+use hall::Fault;
+use hall::Job;
+use hall::Refusal;
+use path::Housed;
+ghost use Prim.Native.Nat.{_≤_, _<_};
+ghost use denote.Ref.{now};
+ghost use Rattle.hall.specs.Floor.{NoWalk, floorOf};
+ghost use Rattle.hall.specs.Refusals.{Judged};
+ghost use Rattle.hall.specs.Rule.{Answers};
+ghost use Rattle.asks.specs.Asked.{jobOf, AskedFaults, HouseAsked, ListAsked, Reach, Number, Walkable};
+
+// Whether no walk joins start and goal.
+fn cut_off(nodes: usize, lanes: &[u16], start: u16, goal: u16) -> bool
+    requires { ⌜ (nodes ≤ 1024) × (start < nodes) × (goal < nodes) ⌝ }
+    ensures { λ r. ⌜ Answers r (NoWalk (floorOf nodes (now (lanes .entry))) start goal) ⌝ }
+{
+    let mut row: [u16; 1024] = [0; 1024];
+    walk::distances(nodes, lanes, start, &mut row);
+    let there = goal as usize;
+    let distance = row[there];
+    if distance == 65535 {
+        return true;
+    }
+    false
+}
+
+// 8: the lowest carrier number that no walk takes from its start to its goal.
+fn check_reach(nodes: usize, lanes: &[u16], moves: &[u16]) -> Checked
+    requires { ⌜ Walkable nodes (now moves) ⌝ }
+    ensures { λ r. ⌜ Judged (Reach nodes (now (lanes .entry)) (now (moves .entry))) r ⌝ }
+{
+    let count = moves.len() / 2;
+    let mut i: usize = 0;
+    while i < count {
+        let at = 2 * i;
+        let start = moves[at];
+        let goal = moves[at + 1];
+        if cut_off(nodes, lanes, start, goal) {
+            return Checked::Refused(Refusal {
+                fault: Fault::Unreachable,
+                place: i,
+            });
+        }
+        i += 1;
+    }
+    Checked::Sound
+}
+
+// 10: whether the job has the carrier that a question names.
+fn check_number(carriers: usize, carrier: Carrier) -> Checked
+    ensures { λ r. ⌜ Judged (Number carriers (carrier .0)) r ⌝ }
+{
+    let number = carrier.0 as usize;
+    if number >= carriers {
+        return Checked::Refused(Refusal {
+            fault: Fault::NoCarrier,
+            place: number,
+        });
+    }
+    Checked::Sound
+}
+
+// A job and a carrier number: 2 to 7 of the job, 8 for the lowest carrier number, then 10.
+pub fn check_asked(
+    nodes: usize,
+    lanes: &[u16],
+    moves: &[u16],
+    order: &[u16],
+    carrier: Carrier,
+) -> Checked
+    ensures { λ r. ⌜ Judged (AskedFaults (jobOf nodes (now (lanes .entry)) (now (moves .entry)) (now (order .entry))) (carrier .0)) r ⌝ }
+{
+    let job = network::checks::check_job(nodes, lanes, moves, order);
+    let number = check_number(moves.len() / 2, carrier);
+    if let Checked::Refused(_) = job {
+        return job;
+    }
+    let reach = check_reach(nodes, lanes, moves);
+    if let Checked::Refused(_) = reach {
+        return reach;
+    }
+    number
+}
+
+// The house path of one carrier's move, into a list of 1,024 places at least; past its end they become zero.
+pub fn house_for(
+    nodes: usize,
+    lanes: &[u16],
+    moves: &[u16],
+    order: &[u16],
+    carrier: Carrier,
+    path: &mut [u16],
+) -> Housed
+    ensures { λ r. ⌜ HouseAsked
+        (jobOf nodes (now (lanes .entry)) (now (moves .entry)) (now (order .entry)))
+        (jobOf nodes (now (lanes .exit)) (now (moves .exit)) (now (order .exit)))
+        (carrier .0) (now (path .entry)) (now (path .exit)) r ⌝ }
+{
+    let room = path.len();
+    if room < Job::NODES {
+        return Housed::Refused(Refusal {
+            fault: Fault::ShortTable,
+            place: 0,
+        });
+    }
+    let asked = check_asked(nodes, lanes, moves, order, carrier);
+    if let Checked::Refused(refusal) = asked {
+        hall::zero::zero_first(path, Job::NODES);
+        return Housed::Refused(refusal);
+    }
+    let number = carrier.0 as usize;
+    let at = 2 * number;
+    let start = moves[at];
+    let goal = moves[at + 1];
+    path::house(nodes, lanes, start, goal, path)
+}
+
+// Whether a proposed list is a shortest path of one carrier's move. It is refused with 11 exactly if it is none, whoever made it.
+pub fn judge_for(
+    nodes: usize,
+    lanes: &[u16],
+    moves: &[u16],
+    order: &[u16],
+    carrier: Carrier,
+    list: &[u16],
+) -> Checked
+    ensures { λ r. ⌜ ListAsked
+        (jobOf nodes (now (lanes .entry)) (now (moves .entry)) (now (order .entry)))
+        (jobOf nodes (now (lanes .exit)) (now (moves .exit)) (now (order .exit)))
+        (carrier .0) (now (list .entry)) (now (list .exit)) r ⌝ }
+{
+    let asked = check_asked(nodes, lanes, moves, order, carrier);
+    if let Checked::Refused(_) = asked {
+        return asked;
+    }
+    let number = carrier.0 as usize;
+    let at = 2 * number;
+    let start = moves[at];
+    let goal = moves[at + 1];
+    path::judge(nodes, lanes, start, goal, list)
+}

@@ -1,0 +1,71 @@
+-- `path::choose` meets its contract: a list that the question about it finds sound passes, one that it refuses does not, and each return is one case of `Chosen`. What is
+-- returned is the reference that was lent, or the part of the own list that ends where it begins. Assumes nothing.
+use mathlib.Core.Path.{refl}
+use borrow.Author.Needs.{needs}
+use Rattle.network.proofs.Sections.{soundness}
+use Rattle.path.specs.Paths.{ListFaults, Passes, own-list, spare-list, neither}
+use Rattle.path.proofs.Listed.{none-passes, refused-fails}
+use Rattle.path.proofs.choose.Statement.{statement}
+use Rattle.path.proofs.choose.Tie as tie
+
+judge-requires : tie.Need-judge-requires
+judge-requires c κs = search needs
+
+enum-told : tie.Need-enum-told
+enum-told c = search needs
+
+returns : tie.Need-returns
+returns c =
+    let args = c .before .before .before .before .before .before .args in
+    let none = soundness (ListFaults (args .nodes) (args .lanes .now) (args .start) (args .goal) (args .own .now)) (c .enum-told .given .1) (c .before .before .judge .ensures .judged) in
+    record { chosen = own-list (none-passes _ _ _ _ _ none) refl; lanes-kept = refl; own-kept = refl; spare-kept = refl }
+
+enum-told-2 : tie.Need-enum-told-2
+enum-told-2 c = search needs
+
+-- the own list was refused
+own-fails : (c : tie.After-enum-told2) → let args = c .before .before .before .before .before .before .args in ¬ Passes (args .nodes) (args .lanes .now) (args .start) (args .goal) (args .own .now)
+own-fails c = refused-fails _ _ _ _ _ (c .enum-told2 .given .1) (c .before .before .judge .ensures .judged)
+
+judge-requires-2 : tie.Need-judge-requires-2
+judge-requires-2 c κs = search needs
+
+enum-told-3 : tie.Need-enum-told-3
+enum-told-3 c = search needs
+
+returns-2 : tie.Need-returns-2
+returns-2 c =
+    let args = c .before .before .before .before .before .before .before .before .before .args in
+    let none = soundness (ListFaults (args .nodes) (args .lanes .now) (args .start) (args .goal) (args .spare .now)) (c .enum-told3 .given .1) (c .before .before .judge2 .ensures .judged) in
+    record { chosen = spare-list (own-fails (c .before .before .before)) (none-passes _ _ _ _ _ none) refl; lanes-kept = refl; own-kept = refl; spare-kept = refl }
+
+enum-told-4 : tie.Need-enum-told-4
+enum-told-4 c = search needs
+
+slice-aggregate-result : tie.Need-slice-aggregate-result
+slice-aggregate-result c = search needs
+
+returns-3 : tie.Need-returns-3
+returns-3 c =
+    let judged = c .before .before .before in
+    record {
+      chosen = neither (own-fails (judged .before)) (refused-fails _ _ _ _ _ (c .before .enum-told4 .given .1) (judged .judge2 .ensures .judged)) refl refl;
+      lanes-kept = refl;
+      own-kept = refl;
+      spare-kept = refl;
+    }
+
+pub choose-spec : {M : Type 1} → statement M
+choose-spec =
+    tie.close
+    (tie.spec
+    judge-requires
+    enum-told
+    returns
+    enum-told-2
+    judge-requires-2
+    enum-told-3
+    returns-2
+    enum-told-4
+    slice-aggregate-result
+    returns-3)

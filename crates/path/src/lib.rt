@@ -1,0 +1,223 @@
+// Paths of one move on a lane network (page 01, "Paths"): the house path, the question about one list, and the choice between two lists. Any network, move and
+// list may be put. A network or a move that is at fault is refused with the page's number and place; the choice answers an empty part then. All three go
+// by the distances to the goal, so that a walk of the right form which is not shortest never passes.
+//
+// Cost: one distance walk a question (two for the choice); the house path looks at each lane once for each of its nodes, and the question about one list at the
+// lanes up to the one that it needs for each of its steps, if the list has the right length.
+use hall::Checked;
+use hall::Fault;
+use hall::Job;
+use hall::Refusal;
+ghost use mathlib.Core.Path.{_≡_};
+ghost use Prim.Native.Nat.{_≤_};
+ghost use lib.ListN.{length};
+ghost use denote.Ref.{now};
+ghost use Rattle.hall.specs.Floor.{Lane};
+ghost use Rattle.hall.specs.Rule.{Answers};
+ghost use Rattle.path.specs.Paths.{HouseAnswer, ListAnswer, ChoiceAnswer};
+ghost use Rattle.path.specs.Steps.{Downhill, Reached, Nearer, LowestNext, Laid, Walks};
+
+// What the question for the house path answers: how many nodes the path has, or why there is none.
+pub enum Housed {
+    Nodes(usize),
+    Refused(Refusal),
+}
+
+// The checks 2, 3, 4, 5 and 8 of a move. Where none holds, the row has each node's distance to the goal.
+fn check_reached(nodes: usize, lanes: &[u16], start: u16, goal: u16, row: &mut [u16]) -> Checked
+    requires { ⌜ length (now row) ≡ 1024 ⌝ }
+    ensures { λ r. ⌜ Reached nodes (now (lanes .entry)) start goal (now (row .exit)) r ⌝ }
+{
+    let checked = network::checks::check_move(nodes, lanes, start, goal);
+    if let Checked::Refused(_) = checked {
+        return checked;
+    }
+    walk::distances(nodes, lanes, goal, row);
+    let here = start as usize;
+    let distance = row[here];
+    if distance == 65535 {
+        return Checked::Refused(Refusal {
+            fault: Fault::Unreachable,
+            place: 0,
+        });
+    }
+    Checked::Sound
+}
+
+// One end of a lane, seen from node u: if the lane leads from u to a node b at the wanted distance, the lower of b and the best so far.
+fn nearer(nodes: usize, row: &[u16], u: u16, a: u16, b: u16, wanted: u16, best: u16) -> u16
+    requires { ⌜ nodes ≤ length (now row) ⌝ }
+    ensures { λ r. ⌜ Nearer nodes (now (row .entry)) u a b wanted best r ⌝ }
+{
+    let place = b as usize;
+    if a != u {
+        return best;
+    }
+    if place >= nodes {
+        return best;
+    }
+    let distance = row[place];
+    if distance != wanted {
+        return best;
+    }
+    if best <= b {
+        return best;
+    }
+    b
+}
+
+// The lowest-numbered neighbour of u at the wanted distance from the goal, 65,535 if there is none.
+fn next_node(nodes: usize, lanes: &[u16], row: &[u16], u: u16, wanted: u16) -> u16
+    requires { ⌜ nodes ≤ length (now row) ⌝ }
+    ensures { λ r. ⌜ LowestNext nodes (now (lanes .entry)) (now (row .entry)) u wanted r ⌝ }
+{
+    let count = lanes.len();
+    let mut best: u16 = 65535;
+    let mut i: usize = 0;
+    while i + 1 < count {
+        let a = lanes[i];
+        let b = lanes[i + 1];
+        best = nearer(nodes, row, u, a, b, wanted, best);
+        best = nearer(nodes, row, u, b, a, wanted, best);
+        i += 2;
+    }
+    best
+}
+
+// The house path, from the start on until the goal; how many nodes it has. Places past its end are not touched.
+fn lay(nodes: usize, lanes: &[u16], row: &[u16], start: u16, goal: u16, path: &mut [u16]) -> usize
+    requires { ⌜ Downhill nodes (now lanes) start goal (now row) × (1024 ≤ length (now path)) ⌝ }
+    ensures { λ r. ⌜ Laid nodes (now (lanes .entry)) start goal (now (path .entry)) (now (path .exit)) r ⌝ }
+{
+    let here = start as usize;
+    let mut left = row[here];
+    let mut u = start;
+    let mut at: usize = 0;
+    path[0] = start;
+    while u != goal {
+        left -= 1;
+        at += 1;
+        u = next_node(nodes, lanes, row, u, left);
+        path[at] = u;
+    }
+    at + 1
+}
+
+// The house path of a move, into a list of 1,024 places at least; past its end they become zero.
+pub fn house(nodes: usize, lanes: &[u16], start: u16, goal: u16, path: &mut [u16]) -> Housed
+    ensures { λ r. ⌜ HouseAnswer nodes (now (lanes .entry)) (now (lanes .exit)) start goal (now (path .entry)) (now (path .exit)) r ⌝ }
+{
+    let room = path.len();
+    if room < Job::NODES {
+        return Housed::Refused(Refusal {
+            fault: Fault::ShortTable,
+            place: 0,
+        });
+    }
+    hall::zero::zero_first(path, Job::NODES);
+    let mut row: [u16; 1024] = [0; 1024];
+    let reached = check_reached(nodes, lanes, start, goal, &mut row);
+    if let Checked::Refused(refusal) = reached {
+        return Housed::Refused(refusal);
+    }
+    let count = lay(nodes, lanes, &row, start, goal, path);
+    Housed::Nodes(count)
+}
+
+// Whether a lane joins a and b.
+fn joined(lanes: &[u16], a: u16, b: u16) -> bool
+    ensures { λ r. ⌜ Answers r (Lane (now (lanes .entry)) a b) ⌝ }
+{
+    let count = lanes.len();
+    let mut i: usize = 0;
+    while i + 1 < count {
+        let x = lanes[i];
+        let y = lanes[i + 1];
+        if x == a {
+            if y == b {
+                return true;
+            }
+        }
+        if x == b {
+            if y == a {
+                return true;
+            }
+        }
+        i += 2;
+    }
+    false
+}
+
+// Whether the list begins at the start, ends at the goal and joins consecutive nodes by lanes.
+fn walks(lanes: &[u16], start: u16, goal: u16, list: &[u16]) -> bool
+    ensures { λ r. ⌜ Answers r (Walks (now (lanes .entry)) start goal (now (list .entry))) ⌝ }
+{
+    let count = list.len();
+    if count == 0 {
+        return false;
+    }
+    let last = count - 1;
+    if list[0] != start {
+        return false;
+    }
+    if list[last] != goal {
+        return false;
+    }
+    let mut k: usize = 0;
+    while k < last {
+        let here = list[k];
+        let next = list[k + 1];
+        if joined(lanes, here, next) {
+            k += 1;
+        } else {
+            return false;
+        }
+    }
+    true
+}
+
+// Whether a proposed list is a shortest path of a move. It is refused with 11 exactly if it is none, whoever made it.
+pub fn judge(nodes: usize, lanes: &[u16], start: u16, goal: u16, list: &[u16]) -> Checked
+    ensures { λ r. ⌜ ListAnswer nodes (now (lanes .entry)) (now (lanes .exit)) start goal (now (list .entry)) (now (list .exit)) r ⌝ }
+{
+    let mut row: [u16; 1024] = [0; 1024];
+    let reached = check_reached(nodes, lanes, start, goal, &mut row);
+    if let Checked::Refused(_) = reached {
+        return reached;
+    }
+    let here = start as usize;
+    let distance = row[here] as usize;
+    let whole = distance + 1;
+    let count = list.len();
+    if count == whole {
+        if walks(lanes, start, goal, list) {
+            return Checked::Sound;
+        }
+    }
+    Checked::Refused(Refusal {
+        fault: Fault::NotShortest,
+        place: 0,
+    })
+}
+
+// The drive shop's own list if that is a shortest path of the move, otherwise the spare if that is one, otherwise an empty part. The answer is the lent list itself.
+pub fn choose<'a>(
+    nodes: usize,
+    lanes: &[u16],
+    start: u16,
+    goal: u16,
+    own: &'a [u16],
+    spare: &'a [u16],
+) -> &'a [u16]
+    ensures { λ r. ⌜ ChoiceAnswer nodes (now (lanes .entry)) (now (lanes .exit)) start goal (own .entry) (own .exit) (spare .entry) (spare .exit) r ⌝ }
+{
+    let first = judge(nodes, lanes, start, goal, own);
+    if let Checked::Sound = first {
+        return own;
+    }
+    let second = judge(nodes, lanes, start, goal, spare);
+    if let Checked::Sound = second {
+        return spare;
+    }
+    &own[..0]
+}
