@@ -1,0 +1,3 @@
+-- What planning a job from numbers promises.
+pub mod Planning
+pub mod Steps
