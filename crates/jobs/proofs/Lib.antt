@@ -1,0 +1,13 @@
+-- Laws of the questions with a whole job, from the bottom up.
+--     steps          Shortness, Loading, ReadRecords, ReadJob, ReadExactly, PlanRecords, AskRecords
+--     the promises   Unique: one outcome for each input; PathAnswers: the questions about one carrier agree; Demands: what they say to the hall
+pub mod Shortness
+pub mod Loading
+pub mod ReadRecords
+pub mod ReadJob
+pub mod ReadExactly
+pub mod PlanRecords
+pub mod AskRecords
+pub mod Unique
+pub mod PathAnswers
+pub mod Demands

@@ -1,0 +1,107 @@
+-- Planning over records is planning from their numbers. What is planned of the loaded moves is the plan of the records' moves, since jobs of more than 64 carriers are
+-- refused alike. The local lists of 64 distances and 64 ticks are long enough, so 9 is the table's alone. After a cost every record has the carrier's
+-- distance and tick of those lists, and past the records both lists are zero, as a missing record is; after a refusal no record is written. Assumes nothing.
+--     records-planned     the promise of `plan`, from that of `plan_moves` and from the records that are written
+use mathlib.Core.Path.{_≡_, refl, sym, _∙_, ap, subst}
+use mathlib.Core.List.{List}
+use Prim.Native.Nat.{ℕ, _/_, _≤_, _<_}
+use native.Mathlib.Decide.{decLt}
+use native.Mathlib.Omega.{arith}
+use lib.ListN.{length, getD, replicate, length-replicate, List·getD-eq-default}
+use Rattle.hall.specs.declared.Refusal.{Refusal}
+use Rattle.hall.specs.Job.{Numbers}
+use Rattle.hall.specs.Plan.{Plan, tablesIn}
+use Rattle.hall.proofs.Sound.{carriers-limit}
+use Rattle.records.specs.declared.Record.{Record}
+use Rattle.records.specs.Table.{blank, recordAt, withTimes, moved, timed}
+use Rattle.records.proofs.Lists.{timed-length}
+use Rattle.records.proofs.Laws.{moves-count, timed-at, timed-past}
+use Rattle.planner.specs.declared.Planned.{Planned}
+use Rattle.planner.specs.declared.Planned.the-variants.{Cost, Refused}
+use Rattle.planner.specs.Planning as numbers
+use Rattle.planner.specs.Planning.{job, lent, Short, short-table, short-distances, short-ticks}
+use Rattle.planner.proofs.Faults.{none-checked}
+use Rattle.planner.proofs.Crowd.{planning-alike}
+use Rattle.jobs.specs.Job.{jobOf}
+use Rattle.jobs.specs.Planning.{tickOf, Accepted, Refuses, Given, Planning}
+use Rattle.jobs.specs.Loading.{loaded, storedCount}
+use Rattle.jobs.proofs.Shortness.{none-as, first-as}
+use Rattle.jobs.proofs.Loading.{zeros130, loaded-as}
+
+-- ---- 9
+
+abbrev zeros64 : List ℕ
+zeros64 = replicate 64 0
+
+table-short : (n : ℕ) → Short n (length zeros64) (length zeros64) → n < 12288
+table-short n (short-table h) = h
+table-short n (short-distances h) = absurd (let x : ⊥ = omega (arith, length-replicate {A = ℕ} 64 0) in x)
+table-short n (short-ticks h) = absurd (let x : ⊥ = omega (arith, length-replicate {A = ℕ} 64 0) in x)
+
+-- ---- the records that are written
+
+module _ (nodes : ℕ) (lanes : List ℕ) (rs : List Record) (order table table′ ds ks : List ℕ) where
+  abbrev j : Numbers
+  j = jobOf nodes lanes rs order
+
+  module _ (c : ℕ) (a : numbers.Accepted j (lent table zeros64 zeros64) (lent table′ ds ks) c) where
+    few : length rs ≤ 64
+    few = rw (moves-count rs) at (carriers-limit j (none-checked j (lent table zeros64 zeros64) (a .no-fault)))
+
+    distances-long : length ds ≡ 64
+    distances-long = a .distances-left .size ∙ length-replicate {A = ℕ} 64 0
+
+    ticks-long : length ks ≡ 64
+    ticks-long = a .ticks-left .size ∙ length-replicate {A = ℕ} 64 0
+
+    written : (i : ℕ) → i < length rs → recordAt (timed (length rs) rs ds ks) i ≡ withTimes (recordAt rs i) (getD ds i 0) (getD ks i 0)
+    written i h = timed-at (length rs) rs ds ks i h h (omega (arith, distances-long, few)) (omega (arith, ticks-long, few))
+
+    -- past the records a tick is zero, and so is that of a missing record
+    no-tick : (i : ℕ) → length rs ≤ i → getD ks i 0 ≡ 0
+    no-tick i h = cases (decLt i 64)
+      where
+        cases : Dec (i < 64) → getD ks i 0 ≡ 0
+        cases (yes l) = a .ticks-left .unused i (rw (moves-count rs) h) l
+        cases (no l) = List·getD-eq-default ks 0 {n = i} (omega (arith, ticks-long))
+
+    no-record : (i : ℕ) → length rs ≤ i → recordAt (timed (length rs) rs ds ks) i ≡ blank
+    no-record i h = timed-past (length rs) rs ds ks i h ∙ List·getD-eq-default rs blank {n = i} h
+
+    same-tick : (i : ℕ) → getD ks i 0 ≡ tickOf (timed (length rs) rs ds ks) i
+    same-tick i = cases (decLt i (length rs))
+      where
+        cases : Dec (i < length rs) → getD ks i 0 ≡ tickOf (timed (length rs) rs ds ks) i
+        cases (yes h) = sym (ap (λ (x : Record). x .tick) (written i h))
+        cases (no h) = no-tick i (omega arith) ∙ sym (ap (λ (x : Record). x .tick) (no-record i (omega arith)))
+
+    records-accepted : Accepted j rs (timed (length rs) rs ds ks) table table′ c
+    records-accepted = record {
+      no-fault = none-as j (λ n. ⊥) ⊥ short-table (a .no-fault);
+      plan = subst (λ (t : ℕ → ℕ). Plan j (tablesIn table′) t c) (λ k i. same-tick i k) (a .plan);
+      records-left = record {
+        as-many = timed-length (length rs) rs ds ks;
+        starts = λ i h. ap (λ (x : Record). x .start) (written i h);
+        goals = λ i h. ap (λ (x : Record). x .goal) (written i h);
+        distances = λ i h. ap (λ (x : Record). x .distance) (written i h) ∙ a .own-distances i (rw (moves-count rs) h);
+      };
+      table-left = a .table-left;
+    }
+
+  records-refused : (r : Refusal) → numbers.Refuses j (lent table zeros64 zeros64) (lent table′ ds ks) r → Refuses j rs rs table table′ r
+  records-refused r a = record { first = first-as j (λ n. ⊥) ⊥ (table-short (length table)) short-table (a .first); records-kept = refl; table-left = a .table-left }
+
+  given-records : (r : Planned) → numbers.Planning j (lent table zeros64 zeros64) (lent table′ ds ks) r → Given j rs (timed (storedCount r (length rs)) rs ds ks) table table′ r
+  given-records (Cost c) a = records-accepted c a
+  given-records (Refused r) a = records-refused r a
+
+  -- planning from the numbers of some moves
+  abbrev Numbered : Planned → List ℕ → Type 0
+  Numbered r ms = numbers.Planning (job nodes lanes ms order) (lent table zeros64 zeros64) (lent table′ ds ks) r
+
+  pub records-planned : (rs′ : List Record) (r : Planned) → Numbered r (loaded (length rs) (moved rs zeros130))
+      → rs′ ≡ timed (storedCount r (length rs)) rs ds ks → Planning nodes lanes lanes rs rs′ order order table table′ r
+  records-planned rs′ r a e = record { given = rw e (given-records r (loaded-as rs (Numbered r) alike a)); lanes-kept = refl; order-kept = refl }
+    where
+      alike : (ms ms′ : List ℕ) → 64 < length ms / 2 → 64 < length ms′ / 2 → Numbered r ms → Numbered r ms′
+      alike ms ms′ many many′ = planning-alike nodes lanes order ms ms′ many many′ (lent table zeros64 zeros64) (lent table′ ds ks) r

@@ -1,0 +1,226 @@
+// Every question that takes a whole job, with the carriers' records lent as one list by carrier number: reading a job text into lent tables, planning, and the
+// questions about one carrier's path. Each takes every input. These functions are thin: they carry the records to a local list of numbers and ask a function on
+// numbers; reading and planning then write its answer into the records, the other two only read them. What is decided, and how many records are written,
+// is decided by the functions on numbers.
+//
+// Working memory here: 260 bytes for the moves of at most 65 records, 384 for the distances and ticks of 64. A job of more than 64 records is refused
+// whatever the moves are, so the 65th tells enough. Below, a distance walk takes 22,528 bytes: the chains of the lanes, the list of waiting nodes and a row.
+ghost use mathlib.Core.Path.{_≡_};
+ghost use Prim.Native.Nat.{_*_, min};
+ghost use denote.Ref.{now};
+ghost use Rattle.hall.specs.Refusals.{Judged};
+ghost use Rattle.planner.specs.Planning.{job, lent, Planning};
+ghost use Rattle.asks.specs.Asked.{HouseAskedGiven, ListAskedFaults};
+ghost use Rattle.jobs.specs.Reading.{ReadLeft, placedCount};
+ghost use Rattle.jobs.specs.Planning.{Planning as JobPlanning};
+ghost use Rattle.jobs.specs.Asking.{HouseAnswer, ListAnswer};
+ghost use Rattle.jobs.specs.Loading.{loaded, storedCount};
+use asks::house_for;
+use asks::judge_for;
+use hall::Carrier;
+use hall::Checked;
+use hall::Job;
+use path::Housed;
+use planner::Planned;
+use planner::plan_moves;
+use records::Record;
+use records::load_moves;
+use records::store_moves;
+use records::store_times;
+use text::reader::Read;
+use text::reader::read_numbers;
+
+// ---- reading
+
+// How many records reading writes, by the lengths of the lent tables: none if one of them is too short.
+fn placed_count(lanes: usize, records: usize, order: usize) -> usize
+    ensures { λ r. ⌜ r ≡ placedCount lanes records order ⌝ }
+{
+    if lanes < 8192 {
+        return 0;
+    }
+    if records < Job::CARRIERS {
+        return 0;
+    }
+    if order < Job::CARRIERS {
+        return 0;
+    }
+    Job::CARRIERS
+}
+
+// Reads a job text: the lanes' numbers go to `lanes`, the carriers' starts and goals to the first 64 `records`, with distance and tick 0, the order to `order`.
+pub fn read_job(text: &[u8], lanes: &mut [u16], records: &mut [Record], order: &mut [u16]) -> Read
+    ensures { λ r. ⌜ ReadLeft
+        (now (text .entry)) (now (text .exit))
+        (now (lanes .entry)) (now (lanes .exit))
+        (now (records .entry)) (now (records .exit))
+        (now (order .entry)) (now (order .exit)) r ⌝ }
+{
+    let mut moves = [0u16; 128];
+    let answer = read_numbers(text, lanes, records.len(), &mut moves, order);
+    let count = placed_count(lanes.len(), records.len(), order.len());
+    store_moves(records, count, &moves);
+    answer
+}
+
+// ---- planning
+
+// The smaller of two counts.
+fn fewer(a: usize, b: usize) -> usize
+    ensures { λ r. ⌜ r ≡ min a b ⌝ }
+{
+    if a < b {
+        return a;
+    }
+    b
+}
+
+// How many of `room` numbers are those of the moves of that many records, of 65 at most.
+fn numbers_of(records: usize, room: usize) -> usize
+    ensures { λ r. ⌜ r ≡ min (2 * min records 65) room ⌝ }
+{
+    let most = fewer(records, 65);
+    fewer(2 * most, room)
+}
+
+// The plan of a job of `records` carriers whose moves are loaded.
+fn plan_loaded(
+    nodes: usize,
+    lanes: &[u16],
+    records: usize,
+    moves: &[u16],
+    order: &[u16],
+    table: &mut [u16],
+    distances: &mut [u16],
+    ticks: &mut [u32],
+) -> Planned
+    ensures { λ r. ⌜ Planning
+        (job nodes (now (lanes .entry)) (loaded records (now (moves .entry))) (now (order .entry)))
+        (lent (now (table .entry)) (now (distances .entry)) (now (ticks .entry)))
+        (lent (now (table .exit)) (now (distances .exit)) (now (ticks .exit))) r ⌝ }
+{
+    let used = numbers_of(records, moves.len());
+    plan_moves(nodes, lanes, &moves[..used], order, table, distances, ticks)
+}
+
+// How many of `records` records planning writes: none after a refusal.
+fn stored_count(answer: Planned, records: usize) -> usize
+    ensures { λ r. ⌜ r ≡ storedCount answer records ⌝ }
+{
+    match answer {
+        Planned::Cost(_) => records,
+        Planned::Refused(_) => 0,
+    }
+}
+
+// Plans a job: fills the distance table and, in the records, each carrier's distance and start tick; answers the cost, or the first refusal.
+pub fn plan(
+    nodes: usize,
+    lanes: &[u16],
+    records: &mut [Record],
+    order: &[u16],
+    table: &mut [u16],
+) -> Planned
+    ensures { λ r. ⌜ JobPlanning nodes
+        (now (lanes .entry)) (now (lanes .exit))
+        (now (records .entry)) (now (records .exit))
+        (now (order .entry)) (now (order .exit))
+        (now (table .entry)) (now (table .exit)) r ⌝ }
+{
+    let mut moves = [0u16; 130];
+    let mut distances = [0u16; 64];
+    let mut ticks = [0u32; 64];
+    let n = records.len();
+    load_moves(records, &mut moves);
+    let answer = plan_loaded(
+        nodes,
+        lanes,
+        n,
+        &moves,
+        order,
+        table,
+        &mut distances,
+        &mut ticks,
+    );
+    let count = stored_count(answer, n);
+    store_times(records, count, &distances, &ticks);
+    answer
+}
+
+// ---- one carrier's path
+
+// The house path of one carrier of a job of `records` carriers whose moves are loaded.
+fn house_loaded(
+    nodes: usize,
+    lanes: &[u16],
+    records: usize,
+    moves: &[u16],
+    order: &[u16],
+    carrier: Carrier,
+    path: &mut [u16],
+) -> Housed
+    ensures { λ r. ⌜ HouseAskedGiven
+        (job nodes (now (lanes .entry)) (loaded records (now (moves .entry))) (now (order .entry)))
+        (carrier .0) (now (path .entry)) (now (path .exit)) r ⌝ }
+{
+    let used = numbers_of(records, moves.len());
+    house_for(nodes, lanes, &moves[..used], order, carrier, path)
+}
+
+// The house path of one carrier of a job, into a list of 1,024 places at least; answers how many nodes it has, or the first refusal.
+pub fn house(
+    nodes: usize,
+    lanes: &[u16],
+    records: &[Record],
+    order: &[u16],
+    carrier: Carrier,
+    path: &mut [u16],
+) -> Housed
+    ensures { λ r. ⌜ HouseAnswer nodes
+        (now (lanes .entry)) (now (lanes .exit))
+        (now (records .entry)) (now (records .exit))
+        (now (order .entry)) (now (order .exit))
+        (carrier .0) (now (path .entry)) (now (path .exit)) r ⌝ }
+{
+    let mut moves = [0u16; 130];
+    load_moves(records, &mut moves);
+    house_loaded(nodes, lanes, records.len(), &moves, order, carrier, path)
+}
+
+// Whether a list is a shortest path of one carrier of a job of `records` carriers whose moves are loaded.
+fn judge_loaded(
+    nodes: usize,
+    lanes: &[u16],
+    records: usize,
+    moves: &[u16],
+    order: &[u16],
+    carrier: Carrier,
+    list: &[u16],
+) -> Checked
+    ensures { λ r. ⌜ Judged (ListAskedFaults
+        (job nodes (now (lanes .entry)) (loaded records (now (moves .entry))) (now (order .entry)))
+        (carrier .0) (now (list .entry))) r ⌝ }
+{
+    let used = numbers_of(records, moves.len());
+    judge_for(nodes, lanes, &moves[..used], order, carrier, list)
+}
+
+// Whether a proposed list is a shortest path of one carrier of a job.
+pub fn judge(
+    nodes: usize,
+    lanes: &[u16],
+    records: &[Record],
+    order: &[u16],
+    carrier: Carrier,
+    list: &[u16],
+) -> Checked
+    ensures { λ r. ⌜ ListAnswer nodes
+        (now (lanes .entry)) (now (lanes .exit))
+        (now (records .entry)) (now (records .exit))
+        (now (order .entry)) (now (order .exit))
+        (carrier .0) (now (list .entry)) (now (list .exit)) r ⌝ }
+{
+    let mut moves = [0u16; 130];
+    load_moves(records, &mut moves);
+    judge_loaded(nodes, lanes, records.len(), &moves, order, carrier, list)
+}

@@ -1,0 +1,2 @@
+-- What the contracts over the carriers' records cite.
+pub mod Table
