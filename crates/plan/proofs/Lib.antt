@@ -1,0 +1,2 @@
+-- What the program needs of the answer to a text.
+pub mod Within

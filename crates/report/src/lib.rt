@@ -1,0 +1,78 @@
+// The answer to a job text, as the plan program prints it: the plan of the job, or the refusal with its line. Every text is taken; the answer goes to the front
+// of the lent bytes, and into fewer than 2,048 bytes nothing is printed and the answer is 0. A print is no question of page 01, so no refusal number is
+// given for a short list, and the rest of the bytes stays as it came: the bytes printed are those that the answer counts. The tables that reading and planning
+// fill are locals, 41,728 bytes of arrays.
+ghost use lib.ListN.{length};
+ghost use denote.Ref.{now};
+ghost use Rattle.hall.specs.Refusals.{Checks, None};
+ghost use Rattle.planner.specs.Planning.{job};
+ghost use Rattle.report.specs.Answer.{JobText, AnswerText, Answering};
+use crate::print::print_plan;
+use crate::print::print_refused;
+use hall::Job;
+use planner::Planned;
+use planner::plan_moves;
+use text::reader::Read;
+use text::reader::read_numbers;
+
+pub mod print;
+
+// The answer for a job without faults 2 to 7. Carrier 0 stands on the line behind NODES, LANES, the lanes and CARRIERS.
+fn answer_job(nodes: usize, lanes: &[u16], moves: &[u16], order: &[u16], out: &mut [u8]) -> usize
+    requires { ⌜ None (Checks (job nodes (now lanes) (now moves) (now order))) ⌝ }
+    ensures { λ r. ⌜ Answering (JobText (job nodes (now (lanes .entry)) (now (moves .entry)) (now (order .entry)))) (now (out .entry)) (now (out .exit)) r ⌝ }
+{
+    let mut table = [0u16; 12288];
+    let mut distances = [0u16; 64];
+    let mut ticks = [0u32; 64];
+    let carriers = moves.len() / 2;
+    let first = 4 + lanes.len() / 2;
+    let planned = plan_moves(
+        nodes,
+        lanes,
+        moves,
+        order,
+        &mut table,
+        &mut distances,
+        &mut ticks,
+    );
+    match planned {
+        Planned::Cost(cost) => print_plan(carriers, &distances, &ticks, cost, out),
+        Planned::Refused(refusal) => {
+            let fault = refusal.fault;
+            let place = refusal.place;
+            let line = first + place;
+            print_refused(fault.number(), line, out)
+        }
+    }
+}
+
+// The answer to a job text.
+pub fn answer(text: &[u8], out: &mut [u8]) -> usize
+    ensures { λ r. ⌜ Answering (AnswerText (now (text .entry))) (now (out .entry)) (now (out .exit)) r ⌝ }
+{
+    let mut lanes = [0u16; 8192];
+    let mut moves = [0u16; 128];
+    let mut order = [0u16; 64];
+    let read = read_numbers(text, &mut lanes, Job::CARRIERS, &mut moves, &mut order);
+    match read {
+        Read::Job(counts) => {
+            let nodes = counts.nodes;
+            let numbers = 2 * counts.lanes;
+            let places = counts.carriers;
+            let ends = 2 * places;
+            answer_job(
+                nodes,
+                &lanes[..numbers],
+                &moves[..ends],
+                &order[..places],
+                out,
+            )
+        }
+        Read::Refused(refusal) => {
+            let fault = refusal.fault;
+            let line = refusal.place;
+            print_refused(fault.number(), line, out)
+        }
+    }
+}

@@ -1,0 +1,64 @@
+-- `vectors::numbers::print_times` is safe and ends. The loop's invariant: `i` is at most `n`, and `n` at most the length of each list. The measure is what is
+-- left of `n`. Assumes nothing.
+use borrow.Author.Needs.{needs}
+use Prim.Native.Nat.{_≤_, _-_}
+use lib.ListN.{length}
+use Rattle.vectors.proofs.numbers.print_times.Statement.{statement}
+use Rattle.vectors.proofs.numbers.print_times.Tie as tie
+
+abbrev Inv-loop : tie.InvT-loop
+Inv-loop distances ticks n i₀ i = (i ≤ n) × ((n ≤ length distances) × (n ≤ length ticks))
+
+abbrev μ-loop : tie.MeasureT-loop
+μ-loop distances ticks n i₀ i = n - i
+
+least-requires : tie.Need-least-requires Inv-loop μ-loop
+least-requires c κs = search needs
+
+loop-holds : tie.Need-loop-holds Inv-loop μ-loop
+loop-holds c = search needs
+
+mul-times : tie.Need-mul-times Inv-loop μ-loop
+mul-times c = search needs
+
+shared-slice-read-times : tie.Need-shared-slice-read-times Inv-loop μ-loop
+shared-slice-read-times c = search needs
+
+mul-times-2 : tie.Need-mul-times-2 Inv-loop μ-loop
+mul-times-2 c = search needs
+
+shared-slice-read-times-2 : tie.Need-shared-slice-read-times-2 Inv-loop μ-loop
+shared-slice-read-times-2 c = search needs
+
+times-requires : tie.Need-times-requires Inv-loop μ-loop
+times-requires c κs = search needs
+
+add-i : tie.Need-add-i Inv-loop μ-loop
+add-i c = search needs
+
+loop-less : tie.Need-loop-less Inv-loop μ-loop
+loop-less c = search needs
+
+loop-again : tie.Need-loop-again Inv-loop μ-loop
+loop-again c = search needs
+
+returns : tie.Need-returns Inv-loop μ-loop
+returns c = search needs
+
+pub print-times-spec : {M : Type 1} → statement M
+print-times-spec =
+    tie.close
+    (tie.spec
+    Inv-loop
+    μ-loop
+    least-requires
+    loop-holds
+    mul-times
+    shared-slice-read-times
+    mul-times-2
+    shared-slice-read-times-2
+    times-requires
+    add-i
+    loop-less
+    loop-again
+    returns)
