@@ -1,0 +1,193 @@
+// Entries of a sound job text spoiled so that they break a check, one function
+// each. A draft is a text as lines, with the job that it came from, so that a
+// damage can pick a number that is no node or that stands earlier.
+// Nothing here says which refusal comes out.
+
+use crate::dice::Dice;
+use crate::job::Job;
+use crate::text;
+
+pub struct Draft {
+    job: Job,
+    pub lines: Vec<Vec<u8>>,
+}
+
+impl Draft {
+    pub fn of(job: Job) -> Draft {
+        let lines = text::lines_of(&job);
+        Draft { job, lines }
+    }
+
+    fn lanes(&self) -> usize {
+        self.job.hall.lane_numbers.len() / 2
+    }
+
+    fn carriers(&self) -> usize {
+        self.job.moves.len()
+    }
+
+    fn set_count(&mut self, line: usize, heading: &str, count: usize) -> usize {
+        self.lines[line] = format!("{} {}", heading, count).into_bytes();
+        line
+    }
+
+    fn set_lane(&mut self, lane: usize, first: usize, second: usize) -> usize {
+        let line = 2 + lane;
+        self.lines[line] = format!("{} {}", first, second).into_bytes();
+        line
+    }
+
+    fn set_move(&mut self, carrier: usize, start: usize, goal: usize) -> usize {
+        let line = 3 + self.lanes() + carrier;
+        self.lines[line] = format!("{} {}", start, goal).into_bytes();
+        line
+    }
+
+    fn set_entry(&mut self, place: usize, entry: usize) -> usize {
+        let line = 4 + self.lanes() + self.carriers() + place;
+        self.lines[line] = entry.to_string().into_bytes();
+        line
+    }
+
+    fn some_lane(&self, dice: &mut Dice) -> (usize, usize, usize) {
+        let lane = dice.below(self.lanes());
+        let (first, second) = self.job.hall.lanes()[lane];
+        (lane, first.into(), second.into())
+    }
+
+    /// A carrier other than 0, its start and goal, and those of one before it.
+    fn some_move(&self, dice: &mut Dice) -> (usize, [usize; 2], [usize; 2]) {
+        let carrier = dice.between(1, self.carriers() - 1);
+        let before = self.job.moves[dice.below(carrier)];
+        let asked = self.job.moves[carrier];
+        let ends = |one: crate::job::Move| [usize::from(one.start), usize::from(one.goal)];
+        (carrier, ends(asked), ends(before))
+    }
+
+    fn no_node(&self, dice: &mut Dice) -> usize {
+        let nodes = self.job.hall.nodes as usize;
+        dice.pick(&[nodes, nodes, nodes + 1, 1023.max(nodes), 1024, 1025, 9999])
+    }
+}
+
+fn near(dice: &mut Dice, count: usize, limit: usize) -> usize {
+    dice.pick(&[count + 1, count + 1, count.saturating_sub(1), 0, limit, limit + 1, 9999])
+}
+
+/// Spoils an entry and says on which line. The draft must have two lanes and
+/// two carriers at least, and all its lines.
+type EntryDamage = fn(&mut Draft, &mut Dice) -> usize;
+
+pub const ENTRY_DAMAGES: &[EntryDamage] = &[
+    |draft, dice| {
+        let nodes = draft.job.hall.nodes as usize;
+        let count = dice.pick(&[0, 0, 1025, 1025, 1026, 2048, 9999, nodes - 1, 1]);
+        draft.set_count(0, "NODES", count)
+    },
+    |draft, dice| {
+        let count = near(dice, draft.lanes(), 4096);
+        draft.set_count(1, "LANES", count)
+    },
+    |draft, dice| {
+        let count = near(dice, draft.carriers(), 64);
+        draft.set_count(2 + draft.lanes(), "CARRIERS", count)
+    },
+    |draft, dice| {
+        let count = near(dice, draft.carriers(), 64);
+        draft.set_count(3 + draft.lanes() + draft.carriers(), "ORDER", count)
+    },
+    |draft, dice| {
+        let (lane, first, second) = draft.some_lane(dice);
+        draft.set_lane(lane, second, first)
+    },
+    |draft, dice| {
+        let (lane, first, second) = draft.some_lane(dice);
+        let end = dice.pick(&[first, second]);
+        draft.set_lane(lane, end, end)
+    },
+    |draft, dice| {
+        let (lane, first, _) = draft.some_lane(dice);
+        let second = draft.no_node(dice);
+        draft.set_lane(lane, first, second)
+    },
+    |draft, dice| {
+        let (lane, _, _) = draft.some_lane(dice);
+        let first = draft.no_node(dice);
+        let second = draft.no_node(dice);
+        draft.set_lane(lane, first, second)
+    },
+    |draft, dice| {
+        // The lane before stands again.
+        let lane = dice.between(1, draft.lanes() - 1);
+        let (first, second) = draft.job.hall.lanes()[lane - 1];
+        draft.set_lane(lane, first.into(), second.into())
+    },
+    |draft, dice| {
+        // Two neighbouring lanes change places, so the second falls.
+        let lane = dice.between(1, draft.lanes() - 1);
+        draft.lines.swap(1 + lane, 2 + lane);
+        2 + lane
+    },
+    |draft, dice| {
+        let (carrier, [_, goal], _) = draft.some_move(dice);
+        let start = draft.no_node(dice);
+        draft.set_move(carrier, start, goal)
+    },
+    |draft, dice| {
+        let (carrier, [start, _], _) = draft.some_move(dice);
+        let goal = draft.no_node(dice);
+        draft.set_move(carrier, start, goal)
+    },
+    |draft, dice| {
+        let (carrier, [start, goal], _) = draft.some_move(dice);
+        let end = dice.pick(&[start, goal]);
+        draft.set_move(carrier, end, end)
+    },
+    |draft, dice| {
+        let (carrier, [_, goal], [earlier_start, _]) = draft.some_move(dice);
+        draft.set_move(carrier, earlier_start, goal)
+    },
+    |draft, dice| {
+        let (carrier, [start, _], [_, earlier_goal]) = draft.some_move(dice);
+        draft.set_move(carrier, start, earlier_goal)
+    },
+    |draft, dice| {
+        // The same end is no node and stands twice: 4 goes before 5.
+        let (carrier, _, _) = draft.some_move(dice);
+        let end = draft.no_node(dice);
+        draft.set_move(carrier, end, end)
+    },
+    |draft, dice| {
+        // Equal ends that also repeat an earlier start: 5 goes before 6.
+        let (carrier, _, [earlier_start, _]) = draft.some_move(dice);
+        draft.set_move(carrier, earlier_start, earlier_start)
+    },
+    |draft, dice| {
+        // One end is no node and the other repeats: 4 goes before 6.
+        let (carrier, _, [earlier_start, earlier_goal]) = draft.some_move(dice);
+        let end = draft.no_node(dice);
+        if dice.once_in(2) {
+            draft.set_move(carrier, earlier_start, end)
+        } else {
+            draft.set_move(carrier, end, earlier_goal)
+        }
+    },
+    |draft, dice| {
+        // Carrier 0 has nobody before it, so only 4 and 5 can strike it.
+        let end = draft.no_node(dice);
+        let start = usize::from(draft.job.moves[0].start);
+        let goal = dice.pick(&[end, start]);
+        draft.set_move(0, start, goal)
+    },
+    |draft, dice| {
+        let carriers = draft.carriers();
+        let place = dice.below(carriers);
+        let entry = dice.pick(&[carriers, carriers, carriers + 1, 63.max(carriers), 64, 9999]);
+        draft.set_entry(place, entry)
+    },
+    |draft, dice| {
+        let place = dice.between(1, draft.carriers() - 1);
+        let entry = draft.job.order[dice.below(place)];
+        draft.set_entry(place, entry.into())
+    },
+];

@@ -1,0 +1,146 @@
+// Ways to spoil a job or a network given as numbers, for the refusals that
+// only planning from numbers can give or whose order differs there: all
+// counts before all entries, and an odd list of lanes.
+// Several can strike one job; none of them says which refusal comes out.
+
+use crate::dice::Dice;
+use crate::job::{Hall, Job, Move};
+
+fn no_node(hall: &Hall, dice: &mut Dice) -> u16 {
+    let nodes = hall.nodes.min(65_000) as u16;
+    dice.pick(&[nodes, nodes, nodes + 1, 1024.max(nodes), 32_768, 65_534, 65_535])
+}
+
+fn some_lane(hall: &Hall, dice: &mut Dice) -> Option<usize> {
+    match hall.lane_numbers.len() / 2 {
+        0 => None,
+        lanes => Some(2 * dice.below(lanes)),
+    }
+}
+
+type HallDamage = fn(&mut Hall, &mut Dice);
+
+pub const HALL_DAMAGES: &[HallDamage] = &[
+    |hall, dice| {
+        hall.nodes =
+            dice.pick(&[0, 0, 1025, 1025, 1026, 65_535, 65_536, 65_537, 1 << 31, u32::MAX]);
+    },
+    |hall, dice| hall.nodes = dice.between(1, hall.nodes.clamp(1, 1024) as usize) as u32,
+    |hall, dice| hall.lane_numbers.push(dice.below(8) as u16),
+    |hall, _| {
+        hall.lane_numbers.pop();
+    },
+    |hall, dice| {
+        if let Some(at) = some_lane(hall, dice) {
+            hall.lane_numbers.swap(at, at + 1);
+        }
+    },
+    |hall, dice| {
+        if let Some(at) = some_lane(hall, dice) {
+            hall.lane_numbers[at] = hall.lane_numbers[at + 1];
+        }
+    },
+    |hall, dice| {
+        if let Some(at) = some_lane(hall, dice) {
+            let end = dice.below(2);
+            hall.lane_numbers[at + end] = no_node(hall, dice);
+        }
+    },
+    |hall, dice| {
+        // The lane before stands again.
+        if let Some(at) = some_lane(hall, dice).filter(|&at| at >= 2) {
+            hall.lane_numbers.copy_within(at - 2..at, at);
+        }
+    },
+    |hall, dice| {
+        // Two neighbouring lanes change places.
+        if let Some(at) = some_lane(hall, dice).filter(|&at| at >= 2) {
+            hall.lane_numbers.swap(at - 2, at);
+            hall.lane_numbers.swap(at - 1, at + 1);
+        }
+    },
+    |hall, dice| {
+        // Every lane at one node goes, which may cut a move's walk.
+        let lonely = dice.below(hall.nodes.clamp(1, 1024) as usize) as u16;
+        let left = hall.lanes().into_iter().filter(|&(a, b)| a != lonely && b != lonely);
+        hall.lane_numbers = left.flat_map(|(first, second)| [first, second]).collect();
+    },
+];
+
+type JobDamage = fn(&mut Job, &mut Dice);
+
+pub const JOB_DAMAGES: &[JobDamage] = &[
+    |job, dice| {
+        // Too many carriers, and as many or fewer order entries.
+        let wanted = dice.between(65, 70);
+        while job.moves.len() < wanted {
+            let start = dice.below(1024) as u16;
+            job.moves.push(Move { start, goal: dice.below(1024) as u16 });
+        }
+        let places = dice.pick(&[wanted, wanted, wanted - 1, 64]);
+        job.order = (0..places as u16).collect();
+    },
+    |job, dice| job.order.push(dice.below(70) as u16),
+    |job, _| {
+        job.order.pop();
+    },
+    |job, dice| job.order = (0..dice.between(0, 70) as u16).collect(),
+    |job, dice| {
+        if let Some(carrier) = some_carrier(job, dice) {
+            job.moves[carrier].start = no_node(&job.hall, dice);
+        }
+    },
+    |job, dice| {
+        if let Some(carrier) = some_carrier(job, dice) {
+            job.moves[carrier].goal = no_node(&job.hall, dice);
+        }
+    },
+    |job, dice| {
+        if let Some(carrier) = some_carrier(job, dice) {
+            job.moves[carrier].goal = job.moves[carrier].start;
+        }
+    },
+    |job, dice| {
+        if let Some(carrier) = some_carrier(job, dice) {
+            job.moves[carrier].start = job.moves[dice.below(carrier.max(1))].start;
+        }
+    },
+    |job, dice| {
+        if let Some(carrier) = some_carrier(job, dice) {
+            job.moves[carrier].goal = job.moves[dice.below(carrier.max(1))].goal;
+        }
+    },
+    |job, dice| {
+        let carriers = job.moves.len() as u16;
+        if !job.order.is_empty() {
+            let place = dice.below(job.order.len());
+            job.order[place] = dice.pick(&[carriers, carriers + 1, 64, 256, 65_535]);
+        }
+    },
+    |job, dice| {
+        if !job.order.is_empty() {
+            let place = dice.below(job.order.len());
+            job.order[place] = job.order[dice.below(place.max(1))];
+        }
+    },
+];
+
+fn some_carrier(job: &Job, dice: &mut Dice) -> Option<usize> {
+    match job.moves.len() {
+        0 => None,
+        carriers => Some(dice.below(carriers)),
+    }
+}
+
+/// Strikes a job once, in its network or in its moves and order.
+pub fn damaged_job(dice: &mut Dice, job: &mut Job) {
+    let which = dice.below(HALL_DAMAGES.len() + JOB_DAMAGES.len());
+    match HALL_DAMAGES.get(which) {
+        Some(damage) => damage(&mut job.hall, dice),
+        None => JOB_DAMAGES[which - HALL_DAMAGES.len()](job, dice),
+    }
+}
+
+pub fn damaged_hall(dice: &mut Dice, hall: &mut Hall) {
+    dice.pick(HALL_DAMAGES)(hall, dice);
+}

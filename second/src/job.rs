@@ -1,0 +1,139 @@
+// A job as plain numbers, with page 01's checks 2 to 7 on it.
+// Lanes stand as a flat list, two numbers a lane, because from numbers the
+// list may have an odd length and that is a refusal of its own.
+// Each single check is one small function, so that reading a text and
+// planning from numbers judge an entry alike and differ only in the order.
+
+pub const MOST_NODES: u32 = 1024;
+pub const MOST_LANES: usize = 4096;
+pub const MOST_CARRIERS: usize = 64;
+
+/// A refusal: page 01's number, and the line (of a text) or the place (from
+/// numbers) that goes with it.
+#[derive(Clone, Copy, Debug, PartialEq, Eq)]
+pub struct Refusal {
+    pub number: u8,
+    pub at: usize,
+}
+
+pub fn refuse<T>(number: u8, at: usize) -> Result<T, Refusal> {
+    Err(Refusal { number, at })
+}
+
+#[derive(Clone, Copy, Debug, PartialEq, Eq)]
+pub struct Move {
+    pub start: u16,
+    pub goal: u16,
+}
+
+#[derive(Clone, Debug, PartialEq, Eq)]
+pub struct Hall {
+    pub nodes: u32,
+    pub lane_numbers: Vec<u16>,
+}
+
+#[derive(Clone, Debug, PartialEq, Eq)]
+pub struct Job {
+    pub hall: Hall,
+    pub moves: Vec<Move>,
+    /// Carrier numbers by place.
+    pub order: Vec<u16>,
+}
+
+/// Check 2 for a count of nodes.
+pub fn nodes_are_out_of_range(nodes: u32) -> bool {
+    nodes < 1 || nodes > MOST_NODES
+}
+
+/// Check 3 for one lane and the lane before it.
+pub fn lane_is_faulty(nodes: u32, before: Option<(u16, u16)>, lane: (u16, u16)) -> bool {
+    let (first, second) = lane;
+    let no_node = u32::from(first) >= nodes || u32::from(second) >= nodes;
+    // Tuples compare by the first number and then by the second, which is
+    // the rising order of lanes.
+    let not_rising = before.map_or(false, |earlier| lane <= earlier);
+    no_node || first >= second || not_rising
+}
+
+/// Checks 4, 5 and 6 for one move and the moves before it, in number order.
+pub fn move_fault(nodes: u32, earlier: &[Move], asked: Move) -> Option<u8> {
+    if u32::from(asked.start) >= nodes || u32::from(asked.goal) >= nodes {
+        return Some(4);
+    }
+    if asked.start == asked.goal {
+        return Some(5);
+    }
+    if earlier.iter().any(|other| other.start == asked.start || other.goal == asked.goal) {
+        return Some(6);
+    }
+    None
+}
+
+/// Check 7 for one order entry and the entries before it.
+pub fn order_entry_is_faulty(carriers: usize, earlier: &[u16], entry: u16) -> bool {
+    usize::from(entry) >= carriers || earlier.contains(&entry)
+}
+
+impl Hall {
+    /// The lanes as pairs. A last number without a partner is left out; the
+    /// check of the counts has refused such a list before.
+    pub fn lanes(&self) -> Vec<(u16, u16)> {
+        self.lane_numbers.chunks_exact(2).map(|two| (two[0], two[1])).collect()
+    }
+
+    fn check_counts(&self) -> Result<(), Refusal> {
+        if nodes_are_out_of_range(self.nodes) {
+            return refuse(2, 0);
+        }
+        if self.lane_numbers.len() % 2 == 1 || self.lane_numbers.len() / 2 > MOST_LANES {
+            return refuse(2, 1);
+        }
+        Ok(())
+    }
+
+    fn check_lanes(&self) -> Result<(), Refusal> {
+        let mut before = None;
+        for (place, &lane) in self.lanes().iter().enumerate() {
+            if lane_is_faulty(self.nodes, before, lane) {
+                return refuse(3, place);
+            }
+            before = Some(lane);
+        }
+        Ok(())
+    }
+
+    /// Checks 2 to 5 for a network and one move: the place of 4 and 5 is 0.
+    pub fn check_with_move(&self, asked: Move) -> Result<(), Refusal> {
+        self.check_counts()?;
+        self.check_lanes()?;
+        match move_fault(self.nodes, &[], asked) {
+            Some(number) => refuse(number, 0),
+            None => Ok(()),
+        }
+    }
+}
+
+impl Job {
+    /// Checks 2 to 7 from numbers: all counts come before all entries.
+    pub fn check(&self) -> Result<(), Refusal> {
+        self.hall.check_counts()?;
+        if self.moves.len() > MOST_CARRIERS {
+            return refuse(2, 2);
+        }
+        if self.order.len() != self.moves.len() {
+            return refuse(2, 3);
+        }
+        self.hall.check_lanes()?;
+        for (carrier, &asked) in self.moves.iter().enumerate() {
+            if let Some(number) = move_fault(self.hall.nodes, &self.moves[..carrier], asked) {
+                return refuse(number, carrier);
+            }
+        }
+        for (place, &entry) in self.order.iter().enumerate() {
+            if order_entry_is_faulty(self.moves.len(), &self.order[..place], entry) {
+                return refuse(7, place);
+            }
+        }
+        Ok(())
+    }
+}

@@ -1,0 +1,24 @@
+// The limit-size jobs of the benchmark, by name: 1,024 nodes and 64 carriers
+// each. A batch repeats one of them, so that its time is that of planning and
+// not of starting a program.
+
+use crate::batch::Case;
+use crate::dice::Dice;
+use crate::halls::{grid, job_over, line, renumbered, scattered};
+use crate::text;
+
+pub const NAMES: [&str; 4] = ["line", "grid", "random", "renumbered"];
+
+/// A batch of `count` times the named job, or nothing for another name.
+pub fn batch(name: &str, count: usize) -> Option<Vec<Case>> {
+    let mut dice = Dice::new(1);
+    let hall = match name {
+        "line" => line(1024),
+        "grid" => grid(1024, 32),
+        "random" => scattered(&mut dice, 1024, 4096),
+        "renumbered" => renumbered(&mut dice, &line(1024)),
+        _ => return None,
+    };
+    let text = text::write(&job_over(&mut dice, hall, 64, true));
+    Some((0..count).map(|_| Case::Plan { text: text.clone() }).collect())
+}

@@ -1,0 +1,66 @@
+// The cases P1 to P11 of page 01 as jobs, with the ticks or the refusal that
+// the page gives. The selftest plans them, and every batch holds them.
+
+use crate::halls::line;
+use crate::job::{refuse, Hall, Job, Move, Refusal};
+
+/// A job whose order is that of the carrier numbers.
+pub fn job(hall: Hall, moves: &[(u16, u16)]) -> Job {
+    let moves: Vec<Move> = moves.iter().map(|&(start, goal)| Move { start, goal }).collect();
+    let order = (0..moves.len() as u16).collect();
+    Job { hall, moves, order }
+}
+
+pub fn hall(nodes: u32, lane_numbers: &[u16]) -> Hall {
+    Hall { nodes, lane_numbers: lane_numbers.to_vec() }
+}
+
+/// P4.
+pub fn head_on() -> Job {
+    job(line(4), &[(0, 3), (3, 0)])
+}
+
+/// P7.
+pub fn all_six_lanes() -> Job {
+    job(hall(4, &[0, 1, 0, 2, 0, 3, 1, 2, 1, 3, 2, 3]), &[(0, 1), (2, 3)])
+}
+
+/// P8.
+pub fn printed_job() -> Job {
+    job(line(5), &[(0, 4), (4, 0), (2, 1)])
+}
+
+/// P9.
+pub fn printed_job_reversed() -> Job {
+    let mut reversed = printed_job();
+    reversed.order.reverse();
+    reversed
+}
+
+/// P10.
+pub fn two_lanes_apart() -> Job {
+    job(hall(4, &[0, 1, 2, 3]), &[(0, 1), (2, 3)])
+}
+
+/// P11.
+pub fn goal_out_of_reach() -> Job {
+    job(hall(3, &[0, 1]), &[(0, 2)])
+}
+
+type Case = (&'static str, Job, Result<Vec<i64>, Refusal>);
+
+pub fn cases() -> Vec<Case> {
+    vec![
+        ("P1", job(line(1), &[]), Ok(vec![])),
+        ("P2", job(line(5), &[(0, 4), (4, 0)]), Ok(vec![0, 5])),
+        ("P3", job(line(2), &[(0, 1), (1, 0)]), Ok(vec![0, 2])),
+        ("P4", head_on(), Ok(vec![0, 4])),
+        ("P5", job(line(5), &[(0, 3), (1, 4)]), Ok(vec![0, 0])),
+        ("P6", job(line(5), &[(0, 1), (3, 4)]), Ok(vec![0, 0])),
+        ("P7", all_six_lanes(), Ok(vec![0, 0])),
+        ("P8", printed_job(), Ok(vec![0, 5, 3])),
+        ("P9", printed_job_reversed(), Ok(vec![5, 0, 0])),
+        ("P10", two_lanes_apart(), Ok(vec![0, 0])),
+        ("P11", goal_out_of_reach(), refuse(8, 0)),
+    ]
+}

@@ -1,0 +1,157 @@
+// Every shortest path of a move, and whether two timed paths meet or cross.
+// Distances come from Floyd and Warshall's triple loop, not from the level
+// sets that the planner uses, so that a slip in one does not excuse the other.
+// It is meant for small halls; callers count paths before they ask for them.
+
+use crate::job::{Hall, Move};
+
+/// Distances of all pairs of nodes, `None` where no walk joins them.
+pub type AllDistances = Vec<Vec<Option<i64>>>;
+
+pub fn all_distances(hall: &Hall) -> AllDistances {
+    let nodes = hall.nodes as usize;
+    let mut table: AllDistances = vec![vec![None; nodes]; nodes];
+    for node in 0..nodes {
+        table[node][node] = Some(0);
+    }
+    for (first, second) in hall.lanes() {
+        table[usize::from(first)][usize::from(second)] = Some(1);
+        table[usize::from(second)][usize::from(first)] = Some(1);
+    }
+    for through in 0..nodes {
+        let onward = table[through].clone();
+        for row in table.iter_mut() {
+            if let Some(first_part) = row[through] {
+                for (best, second_part) in row.iter_mut().zip(&onward) {
+                    if let Some(second_part) = second_part {
+                        let length = first_part + second_part;
+                        if best.map_or(true, |old| length < old) {
+                            *best = Some(length);
+                        }
+                    }
+                }
+            }
+        }
+    }
+    table
+}
+
+/// The nodes to which a shortest path to `goal` can go on from `node`.
+fn nearer(table: &AllDistances, node: usize, goal: usize) -> Vec<usize> {
+    let here = table[node][goal];
+    (0..table.len())
+        .filter(|&next| table[node][next] == Some(1))
+        .filter(|&next| table[next][goal].map(|left| left + 1) == here)
+        .collect()
+}
+
+/// How many shortest paths a move has, but never more than `most`.
+pub fn count_paths(table: &AllDistances, asked: Move, most: u64) -> u64 {
+    let (start, goal) = (usize::from(asked.start), usize::from(asked.goal));
+    let distance = table[start][goal].expect("a planned move has a walk");
+    // How many beginnings of shortest paths end in each node, step by step.
+    let mut beginnings = vec![0; table.len()];
+    beginnings[start] = 1;
+    for _ in 0..distance {
+        let mut longer = vec![0; table.len()];
+        for node in 0..table.len() {
+            if beginnings[node] > 0 {
+                for next in nearer(table, node, goal) {
+                    longer[next] = most.min(longer[next] + beginnings[node]);
+                }
+            }
+        }
+        beginnings = longer;
+    }
+    beginnings[goal]
+}
+
+/// Every shortest path of a move.
+pub fn all_paths(table: &AllDistances, asked: Move) -> Vec<Vec<usize>> {
+    let (start, goal) = (usize::from(asked.start), usize::from(asked.goal));
+    let mut finished = Vec::new();
+    let mut open = vec![vec![start]];
+    while let Some(path) = open.pop() {
+        let node = path[path.len() - 1];
+        if node == goal {
+            finished.push(path);
+            continue;
+        }
+        for next in nearer(table, node, goal) {
+            let mut longer = path.clone();
+            longer.push(next);
+            open.push(longer);
+        }
+    }
+    finished
+}
+
+/// A path and the tick at which its carrier stands on the first node.
+#[derive(Clone, Copy)]
+pub struct Timed<'a> {
+    pub path: &'a [usize],
+    pub tick: i64,
+}
+
+impl Timed<'_> {
+    /// The node at a tick; before the start and after the goal there is none.
+    fn node_at(&self, tick: i64) -> Option<usize> {
+        if tick < self.tick {
+            return None;
+        }
+        self.path.get((tick - self.tick) as usize).copied()
+    }
+
+    fn last_tick(&self) -> i64 {
+        self.tick + self.path.len() as i64 - 1
+    }
+}
+
+/// One node at one tick.
+pub fn meets(one: Timed, other: Timed) -> bool {
+    (one.tick..=one.last_tick()).any(|tick| one.node_at(tick) == other.node_at(tick))
+}
+
+/// Nodes exchanged between two consecutive ticks.
+pub fn crosses(one: Timed, other: Timed) -> bool {
+    (one.tick..one.last_tick()).any(|tick| {
+        one.node_at(tick) == other.node_at(tick + 1) && one.node_at(tick + 1) == other.node_at(tick)
+    })
+}
+
+/// Whether some choice of shortest paths of two moves meets or crosses, told
+/// from distances alone: a node lies on a shortest path exactly if the ways to
+/// it and from it add up to the move's distance, and each carrier chooses
+/// freely, so each node and each lane can be judged by itself.
+pub fn some_choice_collides(table: &AllDistances, one: (Move, i64), other: (Move, i64)) -> bool {
+    let (tick_at_one, tick_at_other) = (ticks_at_nodes(table, one), ticks_at_nodes(table, other));
+    let nodes = 0..table.len();
+    nodes.clone().any(|node| {
+        let meeting = tick_at_one[node].is_some() && tick_at_one[node] == tick_at_other[node];
+        let crossing = nodes.clone().any(|next| {
+            table[node][next] == Some(1)
+                && follows(tick_at_one[node], tick_at_one[next])
+                && follows(tick_at_other[next], tick_at_other[node])
+                && tick_at_one[node] == tick_at_other[next]
+        });
+        meeting || crossing
+    })
+}
+
+fn follows(tick: Option<i64>, next: Option<i64>) -> bool {
+    tick.is_some() && tick.map(|tick| tick + 1) == next
+}
+
+/// For each node on some shortest path of a move, the tick of being there.
+fn ticks_at_nodes(table: &AllDistances, timed: (Move, i64)) -> Vec<Option<i64>> {
+    let (start, goal) = (usize::from(timed.0.start), usize::from(timed.0.goal));
+    let on_a_path = |node: usize| {
+        let (to, from) = (table[start][node]?, table[node][goal]?);
+        if Some(to + from) == table[start][goal] {
+            Some(timed.1 + to)
+        } else {
+            None
+        }
+    };
+    (0..table.len()).map(on_a_path).collect()
+}

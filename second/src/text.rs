@@ -1,0 +1,180 @@
+// Reading a job text, line by line, until the first faulty line.
+// A line is what stands before a line feed; without one there is no line, so
+// a missing line and a last line that is cut off refuse alike, with 1.
+// Fields are what single spaces separate: two spaces in a row, or one at
+// either end, make an empty field, and an empty field is no number.
+// The last functions write a job's text, for the generator.
+
+use crate::job::{
+    lane_is_faulty, move_fault, nodes_are_out_of_range, order_entry_is_faulty, refuse, Hall, Job,
+    Move, Refusal, MOST_CARRIERS, MOST_LANES,
+};
+
+struct Lines<'a> {
+    rest: &'a [u8],
+    /// The number of the line read last, from 1; 0 before the first.
+    number: usize,
+}
+
+/// A number of one to four digits without a leading zero, except 0 itself.
+fn number_in(field: &[u8]) -> Option<u16> {
+    let leading_zero = field.len() > 1 && field[0] == b'0';
+    if field.is_empty() || field.len() > 4 || leading_zero {
+        return None;
+    }
+    if !field.iter().all(u8::is_ascii_digit) {
+        return None;
+    }
+    Some(field.iter().fold(0, |value, digit| 10 * value + u16::from(digit - b'0')))
+}
+
+impl<'a> Lines<'a> {
+    fn refuse<T>(&self, number: u8) -> Result<T, Refusal> {
+        refuse(number, self.number)
+    }
+
+    /// The fields of the next line.
+    fn fields(&mut self) -> Result<Vec<&'a [u8]>, Refusal> {
+        self.number += 1;
+        match self.rest.iter().position(|&byte| byte == b'\n') {
+            None => self.refuse(1),
+            Some(end) => {
+                let line = &self.rest[..end];
+                self.rest = &self.rest[end + 1..];
+                Ok(line.split(|&byte| byte == b' ').collect())
+            }
+        }
+    }
+
+    /// The count on the next line, which opens a section.
+    fn count(&mut self, heading: &str) -> Result<u16, Refusal> {
+        let fields = self.fields()?;
+        if fields.len() == 2 && fields[0] == heading.as_bytes() {
+            if let Some(count) = number_in(fields[1]) {
+                return Ok(count);
+            }
+        }
+        self.refuse(1)
+    }
+
+    /// The numbers on the next line, exactly as many as the caller expects.
+    fn numbers<const EXPECTED: usize>(&mut self) -> Result<[u16; EXPECTED], Refusal> {
+        let fields = self.fields()?;
+        if fields.len() != EXPECTED {
+            return self.refuse(1);
+        }
+        let mut numbers = [0; EXPECTED];
+        for (slot, field) in numbers.iter_mut().zip(fields) {
+            match number_in(field) {
+                Some(number) => *slot = number,
+                None => return self.refuse(1),
+            }
+        }
+        Ok(numbers)
+    }
+
+    fn hall(&mut self) -> Result<Hall, Refusal> {
+        let nodes = u32::from(self.count("NODES")?);
+        if nodes_are_out_of_range(nodes) {
+            return self.refuse(2);
+        }
+        let lanes = usize::from(self.count("LANES")?);
+        if lanes > MOST_LANES {
+            return self.refuse(2);
+        }
+        let mut lane_numbers = Vec::new();
+        let mut before = None;
+        for _ in 0..lanes {
+            let [first, second] = self.numbers()?;
+            if lane_is_faulty(nodes, before, (first, second)) {
+                return self.refuse(3);
+            }
+            before = Some((first, second));
+            lane_numbers.extend([first, second]);
+        }
+        Ok(Hall { nodes, lane_numbers })
+    }
+
+    fn moves(&mut self, nodes: u32) -> Result<Vec<Move>, Refusal> {
+        let carriers = usize::from(self.count("CARRIERS")?);
+        if carriers > MOST_CARRIERS {
+            return self.refuse(2);
+        }
+        let mut moves = Vec::new();
+        for _ in 0..carriers {
+            let [start, goal] = self.numbers()?;
+            let asked = Move { start, goal };
+            if let Some(number) = move_fault(nodes, &moves, asked) {
+                return self.refuse(number);
+            }
+            moves.push(asked);
+        }
+        Ok(moves)
+    }
+
+    fn order(&mut self, carriers: usize) -> Result<Vec<u16>, Refusal> {
+        if usize::from(self.count("ORDER")?) != carriers {
+            return self.refuse(2);
+        }
+        let mut order = Vec::new();
+        for _ in 0..carriers {
+            let [entry] = self.numbers()?;
+            if order_entry_is_faulty(carriers, &order, entry) {
+                return self.refuse(7);
+            }
+            order.push(entry);
+        }
+        Ok(order)
+    }
+
+    /// Bytes after the last line are a fault of form at the line they open.
+    fn end(&mut self) -> Result<(), Refusal> {
+        self.number += 1;
+        if self.rest.is_empty() {
+            Ok(())
+        } else {
+            self.refuse(1)
+        }
+    }
+}
+
+/// The job that a text holds, or refusal 1 to 7 with its line.
+pub fn read(text: &[u8]) -> Result<Job, Refusal> {
+    let mut lines = Lines { rest: text, number: 0 };
+    let hall = lines.hall()?;
+    let moves = lines.moves(hall.nodes)?;
+    let order = lines.order(moves.len())?;
+    lines.end()?;
+    Ok(Job { hall, moves, order })
+}
+
+/// The line of a carrier's move: the headings NODES, LANES and CARRIERS and
+/// all lanes stand before carrier 0, and lines count from 1.
+pub fn line_of_carrier(job: &Job, carrier: usize) -> usize {
+    4 + job.hall.lane_numbers.len() / 2 + carrier
+}
+
+/// The text of a job, one entry a line, each line without its line feed.
+pub fn lines_of(job: &Job) -> Vec<Vec<u8>> {
+    let mut lines = vec![format!("NODES {}", job.hall.nodes)];
+    lines.push(format!("LANES {}", job.hall.lane_numbers.len() / 2));
+    lines.extend(job.hall.lanes().iter().map(|(first, second)| format!("{} {}", first, second)));
+    lines.push(format!("CARRIERS {}", job.moves.len()));
+    lines.extend(job.moves.iter().map(|asked| format!("{} {}", asked.start, asked.goal)));
+    lines.push(format!("ORDER {}", job.order.len()));
+    lines.extend(job.order.iter().map(|entry| entry.to_string()));
+    lines.into_iter().map(String::into_bytes).collect()
+}
+
+pub fn join(lines: &[Vec<u8>]) -> Vec<u8> {
+    let mut text = Vec::new();
+    for line in lines {
+        text.extend_from_slice(line);
+        text.push(b'\n');
+    }
+    text
+}
+
+pub fn write(job: &Job) -> Vec<u8> {
+    join(&lines_of(job))
+}
