@@ -1,99 +1,57 @@
--- Jobs with more than 64 carriers are refused alike, whatever moves they have: 2 at place 2 holds of each, so the first fault is that or one before
--- it, 9 or a count of nodes or lanes, and these do not look at the moves. So a caller that lends a longer list of records may put the first 65 of
--- them only. Assumes nothing.
---     Crowded                                        two jobs on one network with more than 64 carriers each
---     crowded-first, crowded-judged                  the first fault of one is that of the other, whatever the questions add to the job's faults
---     crowded-asked, crowded-house, crowded-list     so each question of this crate has one answer for both
-use mathlib.Core.Path.{_≡_, refl, sym}
-use mathlib.Core.List.{List}
-use Prim.Native.Nat.{ℕ, _≤_, _<_}
-use native.Mathlib.Omega.{arith}
+-- Jobs on one network with more than 64 carriers are refused alike, whatever moves they have (hall's
+-- `crowded-job-alike`), so each question of this crate has one answer for all of them. A caller that lends a
+-- longer list of records may therefore put the first 65 of them only. Assumes nothing.
+--     crowded-asked, crowded-house, crowded-list    what is answered of one such job may be answered of
+--                                                   another
+use mathlib.Core.List.{List, [], _∷_}
+use Prim.Native.Nat.{ℕ, _<_}
 use lib.ListN.{length}
-use Rattle.hall.specs.declared.Fault.{Fault}
-use Rattle.hall.specs.declared.Fault.the-variants.{Malformed, BadCount, BadLane, OffFloor, SameEnds, SharedEnd, BadOrder, Unreachable, ShortTable, NoCarrier, NotShortest}
 use Rattle.hall.specs.declared.Checked.{Checked}
-use Rattle.hall.specs.declared.Checked.the-variants as checked
-use Rattle.hall.specs.Job.{Numbers, floor, carriers, start, goal}
-use Rattle.hall.specs.Path.{ShortestPath}
-use Rattle.hall.specs.Refusals.{turn, CountFault, nodes-count, lanes-count, carriers-count, order-count, Faults, Earlier, by-turn, by-place, by-number, First, Judged}
-use Rattle.path.specs.declared.Housed.{Housed}
-use Rattle.path.specs.declared.Housed.the-variants.{Nodes, Refused}
-use Rattle.asks.specs.Asked.{Lacks, AskedFaults, HouseAskedGiven, ListAskedFaults}
+use Rattle.hall.specs.Limits.{nodeLimit, carrierLimit}
+use Rattle.hall.specs.Floor.{Network}
+use Rattle.hall.specs.Job.{jobOf, moveCount, startIn, goalIn}
+use Rattle.hall.specs.Stages.{None}
+use Rattle.hall.specs.Said.{Said, accepted, refused, Judged}
+use Rattle.hall.specs.Questions.{eachWalk, shortTable, lacking, unfit, askedQuestion, houseOfJob, listOfJob}
+use Rattle.hall.proofs.Compose.{_⇒_, ⇒-judged}
+use Rattle.hall.proofs.Places.{none-asked}
+use Rattle.hall.proofs.Crowded.{⇒-behind, crowded-job, crowded-job-alike}
+use Rattle.path.specs.Paths.{Unfit, HouseLeft}
 
-pub record Crowded (j j′ : Numbers) : Type 0 where
-  pub same-nodes : j′ .nodes ≡ j .nodes
-  pub same-lanes : j′ .lanes ≡ j .lanes
-  pub many : 64 < carriers j
-  pub many′ : 64 < carriers j′
+module _ (N : Network) (order moves moves′ : List ℕ)
+    (many : carrierLimit < moveCount moves) (many′ : carrierLimit < moveCount moves′) (c : ℕ) where
+  asked-alike : askedQuestion (jobOf N moves order) c ⇒ askedQuestion (jobOf N moves′ order) c
+  asked-alike =
+      crowded-job-alike N
+      moves order (eachWalk N moves ∷ lacking (moveCount moves) c ∷ []) many
+      moves′ order (eachWalk N moves′ ∷ lacking (moveCount moves′) c ∷ []) many′
 
-pub crowded-back : {j j′ : Numbers} → Crowded j j′ → Crowded j′ j
-crowded-back c = record { same-nodes = sym (c .same-nodes); same-lanes = sym (c .same-lanes); many = c .many′; many′ = c .many }
+  pub crowded-asked : (r : Checked)
+      → Judged (askedQuestion (jobOf N moves order) c) r → Judged (askedQuestion (jobOf N moves′ order) c) r
+  crowded-asked = ⇒-judged asked-alike
 
-not-above : (m n : ℕ) → ¬ (m < n) → n ≤ m
-not-above m n h = omega arith
+  not-housed : {Short : Type 0} → ¬ None (houseOfJob Short (jobOf N moves order) c)
+  not-housed none =
+      crowded-job N moves order (eachWalk N moves ∷ lacking (moveCount moves) c ∷ []) many
+      (none-asked none .1)
 
--- a fault is 2 at place 2, or comes before it
-abbrev Early : Fault → ℕ → Type 0
-Early f p = (turn f ≤ 2) × (turn f ≡ 2 → p ≤ 2)
+  pub crowded-house : (path path′ : List ℕ) (a : Said ℕ)
+      → HouseLeft (houseOfJob (length path < nodeLimit) (jobOf N moves order) c)
+      N (startIn moves c) (goalIn moves c) path path′ a
+      → HouseLeft (houseOfJob (length path < nodeLimit) (jobOf N moves′ order) c)
+      N (startIn moves′ c) (goalIn moves′ c) path path′ a
+  crowded-house path path′ (accepted count) h = absurd (not-housed (h .0))
+  crowded-house path path′ (refused n p) h =
+      (⇒-behind (shortTable (length path < nodeLimit)) asked-alike .firsts n p (h .0), h .1)
 
-earlier-early : {g f : Fault} {q p : ℕ} → Early f p → Earlier g q f p → Early g q
-earlier-early e (by-turn l) = (omega (arith, e .0), λ t. absurd (let x : ⊥ = omega (arith, e .0) in x))
-earlier-early e (by-place t l) = (omega (arith, e .0), λ u. omega (arith, e .1 (omega arith)))
-earlier-early e (by-number t s l) = (omega (arith, e .0), λ u. omega (arith, e .1 (omega arith)))
-
-module _ {j j′ : Numbers} (c : Crowded j j′) where
-  counts-alike : (p : ℕ) → p ≤ 2 → CountFault (j .nodes) (length (j .lanes)) (carriers j) (length (j .order)) p → CountFault (j′ .nodes) (length (j′ .lanes)) (carriers j′) (length (j′ .order)) p
-  counts-alike p l (nodes-count e h) = nodes-count e (rw (c .same-nodes) h)
-  counts-alike p l (lanes-count e h) = lanes-count e (rw (c .same-lanes) h)
-  counts-alike p l (carriers-count e h) = carriers-count e (c .many′)
-  counts-alike p l (order-count e h) = absurd (let x : ⊥ = omega arith in x)
-
-  early-alike : (Short : Type 0) (Lacks Lacks′ : ℕ → Type 0) (Unfit Unfit′ : Type 0) (f : Fault) (p : ℕ) → Early f p → Faults Short j Lacks Unfit f p → Faults Short j′ Lacks′ Unfit′ f p
-  early-alike S L L′ U U′ Malformed p e h = h
-  early-alike S L L′ U U′ BadCount p e h = counts-alike p (e .1 refl) h
-  early-alike S L L′ U U′ BadLane p e h = absurd (let x : ⊥ = omega (arith, e .0) in x)
-  early-alike S L L′ U U′ OffFloor p e h = absurd (let x : ⊥ = omega (arith, e .0) in x)
-  early-alike S L L′ U U′ SameEnds p e h = absurd (let x : ⊥ = omega (arith, e .0) in x)
-  early-alike S L L′ U U′ SharedEnd p e h = absurd (let x : ⊥ = omega (arith, e .0) in x)
-  early-alike S L L′ U U′ BadOrder p e h = absurd (let x : ⊥ = omega (arith, e .0) in x)
-  early-alike S L L′ U U′ Unreachable p e h = absurd (let x : ⊥ = omega (arith, e .0) in x)
-  early-alike S L L′ U U′ ShortTable p e h = h
-  early-alike S L L′ U U′ NoCarrier p e h = absurd (let x : ⊥ = omega (arith, e .0) in x)
-  early-alike S L L′ U U′ NotShortest p e h = absurd (let x : ⊥ = omega (arith, e .0) in x)
-
-  too-many : (Short : Type 0) (Lacks : ℕ → Type 0) (Unfit : Type 0) → Faults Short j Lacks Unfit BadCount 2
-  too-many S L U = carriers-count refl (c .many)
-
-  first-early : (Short : Type 0) (Lacks : ℕ → Type 0) (Unfit : Type 0) {f : Fault} {p : ℕ} → First (Faults Short j Lacks Unfit) f p → Early f p
-  first-early S L U {f} {p} a = (
-    not-above 2 (turn f) (λ l. a .none-earlier BadCount 2 (too-many S L U) (by-turn l)),
-    λ t. not-above 2 p (λ l. a .none-earlier BadCount 2 (too-many S L U) (by-place (sym t) l)),
-  )
-
--- ---- one first fault for both, whatever the questions add
-
-module _ {j j′ : Numbers} (c : Crowded j j′) (Short : Type 0) (Lacks Lacks′ : ℕ → Type 0) (Unfit Unfit′ : Type 0) where
-  pub crowded-first : {f : Fault} {p : ℕ} → First (Faults Short j Lacks Unfit) f p → First (Faults Short j′ Lacks′ Unfit′) f p
-  crowded-first {f} {p} a =
-      let early = first-early c Short Lacks Unfit a in
-      record {
-        holds = early-alike c Short Lacks Lacks′ Unfit Unfit′ f p early (a .holds);
-        none-earlier = λ g q b e. a .none-earlier g q (early-alike (crowded-back c) Short Lacks′ Lacks Unfit′ Unfit g q (earlier-early early e) b) e;
-      }
-
-  pub crowded-judged : (r : Checked) → Judged (Faults Short j Lacks Unfit) r → Judged (Faults Short j′ Lacks′ Unfit′) r
-  crowded-judged checked.Sound none = absurd (none BadCount 2 (too-many c Short Lacks Unfit))
-  crowded-judged (checked.Refused r) first = crowded-first first
-
--- ---- the answers
-
-module _ {j j′ : Numbers} (c : Crowded j j′) (n : ℕ) where
-  pub crowded-asked : (r : Checked) → Judged (AskedFaults j n) r → Judged (AskedFaults j′ n) r
-  crowded-asked = crowded-judged c ⊥ (Lacks j n) (Lacks j′ n) ⊥ ⊥
-
-  pub crowded-house : (path path′ : List ℕ) (r : Housed) → HouseAskedGiven j n path path′ r → HouseAskedGiven j′ n path path′ r
-  crowded-house path path′ (Nodes count) h = absurd (h .0 BadCount 2 (too-many c (length path < 1024) (Lacks j n) ⊥))
-  crowded-house path path′ (Refused r) h = (crowded-first c (length path < 1024) (Lacks j n) (Lacks j′ n) ⊥ ⊥ (h .0), h .1)
-
-  pub crowded-list : (list : List ℕ) (r : Checked) → Judged (ListAskedFaults j n list) r → Judged (ListAskedFaults j′ n list) r
-  crowded-list list = crowded-judged c ⊥ (Lacks j n) (Lacks j′ n) (¬ ShortestPath (floor j) (start j n) (goal j n) list) (¬ ShortestPath (floor j′) (start j′ n) (goal j′ n) list)
+  pub crowded-list : (list : List ℕ) (r : Checked)
+      → Judged (listOfJob (jobOf N moves order) c (Unfit N (startIn moves c) (goalIn moves c) list)) r
+      → Judged (listOfJob (jobOf N moves′ order) c (Unfit N (startIn moves′ c) (goalIn moves′ c) list)) r
+  crowded-list list =
+      ⇒-judged
+      (crowded-job-alike N
+      moves order (eachWalk N moves ∷ lacking (moveCount moves) c ∷ unfit (misfit moves) ∷ []) many
+      moves′ order (eachWalk N moves′ ∷ lacking (moveCount moves′) c ∷ unfit (misfit moves′) ∷ []) many′)
+    where
+      misfit : List ℕ → Type 0
+      misfit moves = Unfit N (startIn moves c) (goalIn moves c) list

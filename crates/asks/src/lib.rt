@@ -1,6 +1,7 @@
-// Questions about one carrier of a whole job, from numbers (page 01, "Paths" and "Refusal numbers"): the house path of its move, and whether a
-// proposed list is a shortest path of that move. Any numbers may be put. The whole job is checked first, the walks of all its carriers too, then the
-// number named; what is left is the question with a network and a move, which the crate `path` answers.
+// Questions about one carrier of a whole job, from numbers (rules 6.8, 8.26 and 8.27): the house path of its
+// move, and whether a proposed list is a shortest path of that move. Any numbers may be put. The whole job is
+// checked first, the walks of all its carriers too, then the number named; what is left is the question with
+// a network and a move, which the crate `path` answers.
 //
 // Cost: a distance walk for each carrier, at most 64, and then that of the question itself.
 use hall::Carrier;
@@ -9,23 +10,30 @@ use hall::Fault;
 use hall::Job;
 use hall::Refusal;
 use path::Housed;
+ghost use mathlib.Core.List.{[], _∷_};
 ghost use Prim.Native.Nat.{_≤_, _<_};
 ghost use denote.Ref.{now};
-ghost use Rattle.hall.specs.Floor.{NoWalk, floorOf};
-ghost use Rattle.hall.specs.Refusals.{Judged};
+ghost use Rattle.hall.specs.Limits.{nodeLimit};
+ghost use Rattle.hall.specs.Floor.{NoWalk, networkOf, floor};
+ghost use Rattle.hall.specs.Job.{jobOf};
 ghost use Rattle.hall.specs.Rule.{Answers};
-ghost use Rattle.asks.specs.Asked.{jobOf, AskedFaults, HouseAsked, ListAsked, Reach, Number, Walkable};
+ghost use Rattle.hall.specs.Said.{Judged};
+ghost use Rattle.hall.specs.Questions.{eachWalk, lacking, askedQuestion};
+ghost use Rattle.asks.specs.Asked.{HouseAsked, ListAsked, Walkable};
 
 // Whether no walk joins start and goal.
 fn cut_off(nodes: usize, lanes: &[u16], start: u16, goal: u16) -> bool
-    requires { ⌜ (nodes ≤ 1024) × (start < nodes) × (goal < nodes) ⌝ }
-    ensures { λ r. ⌜ Answers r (NoWalk (floorOf nodes (now (lanes .entry))) start goal) ⌝ }
+    requires { ⌜
+        (nodes ≤ nodeLimit)
+        × (start < nodes)
+        × (goal < nodes) ⌝ }
+    ensures { λ r. ⌜ Answers r (NoWalk (floor (networkOf nodes (now (lanes .entry)))) start goal) ⌝ }
 {
-    let mut row: [u16; 1024] = [0; 1024];
+    let mut row: [u16; Job::NODES] = [0; Job::NODES];
     walk::distances(nodes, lanes, start, &mut row);
     let there = goal as usize;
     let distance = row[there];
-    if distance == 65535 {
+    if distance == Job::NO_WALK {
         return true;
     }
     false
@@ -33,8 +41,10 @@ fn cut_off(nodes: usize, lanes: &[u16], start: u16, goal: u16) -> bool
 
 // 8: the lowest carrier number that no walk takes from its start to its goal.
 fn check_reach(nodes: usize, lanes: &[u16], moves: &[u16]) -> Checked
-    requires { ⌜ Walkable nodes (now moves) ⌝ }
-    ensures { λ r. ⌜ Judged (Reach nodes (now (lanes .entry)) (now (moves .entry))) r ⌝ }
+    requires { ⌜ Walkable (networkOf nodes (now lanes)) (now moves) ⌝ }
+    ensures { λ r. ⌜ Judged
+        (eachWalk (networkOf nodes (now (lanes .entry))) (now (moves .entry)) ∷ [])
+        r ⌝ }
 {
     let count = moves.len() / 2;
     let mut i: usize = 0;
@@ -55,7 +65,7 @@ fn check_reach(nodes: usize, lanes: &[u16], moves: &[u16]) -> Checked
 
 // 10: whether the job has the carrier that a question names.
 fn check_number(carriers: usize, carrier: Carrier) -> Checked
-    ensures { λ r. ⌜ Judged (Number carriers (carrier .0)) r ⌝ }
+    ensures { λ r. ⌜ Judged (lacking carriers (carrier .0) ∷ []) r ⌝ }
 {
     let number = carrier.0 as usize;
     if number >= carriers {
@@ -75,7 +85,11 @@ pub fn check_asked(
     order: &[u16],
     carrier: Carrier,
 ) -> Checked
-    ensures { λ r. ⌜ Judged (AskedFaults (jobOf nodes (now (lanes .entry)) (now (moves .entry)) (now (order .entry))) (carrier .0)) r ⌝ }
+    ensures { λ r. ⌜ Judged
+        (askedQuestion
+        (jobOf (networkOf nodes (now (lanes .entry))) (now (moves .entry)) (now (order .entry)))
+        (carrier .0))
+        r ⌝ }
 {
     let job = network::checks::check_job(nodes, lanes, moves, order);
     let number = check_number(moves.len() / 2, carrier);
@@ -99,9 +113,11 @@ pub fn house_for(
     path: &mut [u16],
 ) -> Housed
     ensures { λ r. ⌜ HouseAsked
-        (jobOf nodes (now (lanes .entry)) (now (moves .entry)) (now (order .entry)))
-        (jobOf nodes (now (lanes .exit)) (now (moves .exit)) (now (order .exit)))
-        (carrier .0) (now (path .entry)) (now (path .exit)) r ⌝ }
+        (jobOf (networkOf nodes (now (lanes .entry))) (now (moves .entry)) (now (order .entry)))
+        (jobOf (networkOf nodes (now (lanes .exit))) (now (moves .exit)) (now (order .exit)))
+        (carrier .0)
+        (now (path .entry)) (now (path .exit))
+        r ⌝ }
 {
     let room = path.len();
     if room < Job::NODES {
@@ -122,7 +138,8 @@ pub fn house_for(
     path::house(nodes, lanes, start, goal, path)
 }
 
-// Whether a proposed list is a shortest path of one carrier's move. It is refused with 11 exactly if it is none, whoever made it.
+// Whether a proposed list is a shortest path of one carrier's move. Where neither the job nor the number is
+// at fault, it is refused with 11 exactly if it is none, whoever made it.
 pub fn judge_for(
     nodes: usize,
     lanes: &[u16],
@@ -132,9 +149,11 @@ pub fn judge_for(
     list: &[u16],
 ) -> Checked
     ensures { λ r. ⌜ ListAsked
-        (jobOf nodes (now (lanes .entry)) (now (moves .entry)) (now (order .entry)))
-        (jobOf nodes (now (lanes .exit)) (now (moves .exit)) (now (order .exit)))
-        (carrier .0) (now (list .entry)) (now (list .exit)) r ⌝ }
+        (jobOf (networkOf nodes (now (lanes .entry))) (now (moves .entry)) (now (order .entry)))
+        (jobOf (networkOf nodes (now (lanes .exit))) (now (moves .exit)) (now (order .exit)))
+        (carrier .0)
+        (now (list .entry)) (now (list .exit))
+        r ⌝ }
 {
     let asked = check_asked(nodes, lanes, moves, order, carrier);
     if let Checked::Refused(_) = asked {

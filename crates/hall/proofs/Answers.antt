@@ -1,4 +1,5 @@
--- What a yes or no tells: from the answer to the statement, for a test as it stands and for one that is turned round, and that one answer fits. Assumes nothing.
+-- What a yes or no tells: from the answer to the statement, for a test as it stands and for one that is
+-- turned round, and that one answer fits. Assumes nothing.
 use mathlib.Core.Path.{_≡_, refl, sym}
 use mathlib.Core.Bool.{Bool, true, false, not}
 use native.Mathlib.Omega.{arith}

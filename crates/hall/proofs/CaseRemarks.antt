@@ -1,6 +1,8 @@
--- What page 01 says of its cases beside their outcomes: P4 "Tick 0 would cross, not meet", P6 "gap 4", P7 "gap 0, both leads 0, ds 1", P10 "no walk between the starts".
--- The six distances of a pair are those of the guessed tables, since these are true and distances are unique, and the rest is computed. For P4 the two shortest paths
--- are written down. Assumes nothing.
+-- What the rules remark of their cases beside the outcomes (rules 11.4, 11.6, 11.7 and 11.10): in P4 the two
+-- would cross at tick 0 and not meet; in P6 the gap is 4; in P7 the gap and both leads are 0 and the starts
+-- are one lane apart; in P10 no walk joins the starts. The six distances of a pair are those of the guessed
+-- tables, since these are true and distances are unique, and the rest is computed. For P4 the two shortest
+-- paths are written down. Assumes nothing.
 --     job k         the job of line k of the table, from 0
 --     TruePair k    what holds of every pair of true distances of the first two carriers
 use mathlib.Core.Path.{_≡_, refl, sym, _∙_, ap}
@@ -10,13 +12,14 @@ use Prim.Native.Nat.{ℕ, suc, _+_, _≤_, _<_}
 use native.Mathlib.Omega.{arith}
 use lib.ListN.{length, getD}
 use lib.IntN.{pos}
-use Rattle.hall.specs.Floor.{Lane, floorOf}
-use Rattle.hall.specs.Job.{Numbers, floor, carriers, start, goal}
-use Rattle.hall.specs.Refusals.{None}
+use Rattle.hall.specs.Floor.{Lane, Network, networkOf, floor}
+use Rattle.hall.specs.Job.{Numbers, carriers, start, goal}
+use Rattle.hall.specs.Stages.{None}
+use Rattle.hall.specs.Questions.{jobQuestion}
 use Rattle.hall.specs.Rule.{Pair, lead-i, lead-j, gap}
 use Rattle.hall.specs.Ticks.{Tables, pairOf, total}
 use Rattle.hall.specs.Path.{PathOf, ShortestPath, At, Meet, Cross}
-use Rattle.hall.specs.Plan.{TablesOf, JobFaults}
+use Rattle.hall.specs.Plan.{TablesOf}
 use Rattle.hall.specs.Case.{cases, line4}
 use Rattle.hall.proofs.Walks.{true-distance}
 use Rattle.hall.proofs.Labels.{labels-are}
@@ -30,12 +33,12 @@ abbrev job : ℕ → Numbers
 job k = getD cases k no-case .job
 
 -- the six distances of two carriers are the guessed ones
-pair-guessed : (j : Numbers) → Labelled j → None (JobFaults j) → (t : Tables) → TablesOf (floor j) (carriers j) (start j) (goal j) t
+pair-guessed : (j : Numbers) → Labelled j → None (jobQuestion j) → (t : Tables) → TablesOf (floor (j .network)) (carriers j) (start j) (goal j) t
     → (a b : ℕ) → a < carriers j → b < carriers j → pairOf t a b ≡ pairOf (guessed j) a b
 pair-guessed j labels none t true-tables = pair-same (tables-unique true-tables (guessed-true j labels none))
 
 abbrev pub TruePair : ℕ → (Pair → Type 0) → Type 0
-TruePair k P = (t : Tables) → TablesOf (floor (job k)) (carriers (job k)) (start (job k)) (goal (job k)) t → P (pairOf t 0 1)
+TruePair k P = (t : Tables) → TablesOf (floor (job k .network)) (carriers (job k)) (start (job k)) (goal (job k)) t → P (pairOf t 0 1)
 
 pub P6-gap : TruePair 5 (λ p. gap p ≡ pos 4)
 unfolding cases total gap
@@ -52,7 +55,7 @@ pub P10-no-walk : TruePair 9 (λ p. p .ss ≡ 65535)
 unfolding cases total
 P10-no-walk t h = ap (λ (p : Pair). p .ss) (pair-guessed (job 9) (labelled? (job 9) .sound tt) (all-cases 9 (omega arith) .no-fault) t h 0 1 (omega arith) (omega arith))
 
--- ---- P4, "Tick 0 would cross, not meet"
+-- ---- P4: at tick 0 the two would cross, and not meet
 
 abbrev pub there : List ℕ
 there = 0 ∷ 1 ∷ 2 ∷ 3 ∷ []
@@ -61,19 +64,19 @@ abbrev pub back : List ℕ
 back = 3 ∷ 2 ∷ 1 ∷ 0 ∷ []
 
 -- the list is a path of d lanes from s to g
-abbrev path? : (n : ℕ) (lanes : List ℕ) (s g d : ℕ) (l : List ℕ) → Test (PathOf (floorOf n lanes) s g d l)
-path? n lanes s g d l =
-    map? {A = (length l ≡ d + 1) × ((getD l 0 0 ≡ s) × ((getD l d 0 ≡ g) × (((k : ℕ) → k < suc d → getD l k 0 < n) × ((k : ℕ) → k < d → Lane lanes (getD l k 0) (getD l (k + 1) 0)))))}
+abbrev path? : (N : Network) (s g d : ℕ) (l : List ℕ) → Test (PathOf (floor N) s g d l)
+path? N s g d l =
+    map? {A = (length l ≡ d + 1) × ((getD l 0 0 ≡ s) × ((getD l d 0 ≡ g) × (((k : ℕ) → k < suc d → getD l k 0 < N .nodes) × ((k : ℕ) → k < d → Lane (N .lanes) (getD l k 0) (getD l (k + 1) 0)))))}
     (λ h. record { size = h .0; begins = h .1 .0; ends = h .1 .1 .0; nodes = λ k m. h .1 .1 .1 .0 k (omega arith); joins = h .1 .1 .1 .1 })
     (λ p. (p .size, (p .begins, (p .ends, ((λ k m. p .nodes k (omega arith)), p .joins)))))
-    (eq? (length l) (d + 1) and? eq? (getD l 0 0) s and? eq? (getD l d 0) g and? all? (λ k. lt? (getD l k 0) n) (suc d) and? all? (λ k. lane? lanes (getD l k 0) (getD l (k + 1) 0)) d)
+    (eq? (length l) (d + 1) and? eq? (getD l 0 0) s and? eq? (getD l d 0) g and? all? (λ k. lt? (getD l k 0) (N .nodes)) (suc d) and? all? (λ k. lane? (N .lanes) (getD l k 0) (getD l (k + 1) 0)) d)
 
 -- the two are shortest paths of its moves
-pub P4-paths : ShortestPath (floor (job 3)) 0 3 there × ShortestPath (floor (job 3)) 3 0 back
+pub P4-paths : ShortestPath (floor (job 3 .network)) 0 3 there × ShortestPath (floor (job 3 .network)) 3 0 back
 unfolding cases
 P4-paths = (
-  record { d = 3; short = true-distance (labels-are (labels 0 (omega arith) .0 (omega arith)) 3 (omega arith)) (λ e. omega arith); is-path = path? 4 line4 0 3 3 there .sound tt },
-  record { d = 3; short = true-distance (labels-are (labels 1 (omega arith) .0 (omega arith)) 0 (omega arith)) (λ e. omega arith); is-path = path? 4 line4 3 0 3 back .sound tt },
+  record { d = 3; short = true-distance (labels-are (labels 0 (omega arith) .0 (omega arith)) 3 (omega arith)) (λ e. omega arith); is-path = path? (networkOf 4 line4) 0 3 3 there .sound tt },
+  record { d = 3; short = true-distance (labels-are (labels 1 (omega arith) .0 (omega arith)) 0 (omega arith)) (λ e. omega arith); is-path = path? (networkOf 4 line4) 3 0 3 back .sound tt },
 )
   where
     labels : Labelled (job 3)

@@ -1,14 +1,16 @@
--- The cases P1 to P11 of page 01 hold, the outcomes that its "Errors that come easily" would give do not, and where several faults hold of a job the page's
--- order decides: each is one table, by one test of a job with an outcome. A line of a table costs no proof of its own. Assumes nothing.
+-- The cases P1 to P11 hold, the outcomes that the easy errors would give do not (rule 11.13), and where
+-- several faults hold of a job the order of the checks decides (rule 8.22): each is one table, by one test of
+-- a job with an outcome. A line of a table costs no proof of its own. Assumes nothing.
 --     cases           P1 to P11 (specs/Case.antt)
---     wrong-cases     a job of the table with an outcome that a planner with that error may give: for P8, P4 and P7 the one that the page names
+--     wrong-cases     a job of the table with an outcome that a planner with that error may give: for P8, P4
+--                     and P7 the one that the rule names
 --     refusal-cases   jobs at a limit, and jobs with several faults and the first of them
 use mathlib.Core.List.{List, [], _∷_}
 use Prim.Native.Nat.{ℕ, _<_}
 use lib.ListN.{length, getD, replicate}
-use Rattle.hall.specs.declared.Fault.the-variants.{BadCount, BadLane, OffFloor, SameEnds, SharedEnd, BadOrder, Unreachable}
 use Rattle.hall.specs.Ticks.{total}
-use Rattle.hall.specs.Case.{planned, refused, Case, Holds, case, cases, line2, line4, line5, six-lanes}
+use Rattle.hall.specs.Said.{refused}
+use Rattle.hall.specs.Case.{planned, Case, Holds, case, cases, line2, line4, line5, six-lanes}
 use Rattle.hall.proofs.Test.{Test, not?, _then?_, all?}
 use Rattle.hall.proofs.JobTests.{Labelled, labelled?, gives?}
 
@@ -29,19 +31,20 @@ pub all-cases : (k : ℕ) → k < length cases → Holds (getD cases k no-case)
 unfolding cases total
 all-cases k h = all? (λ k. right? (getD cases k no-case)) (length cases) .sound tt k h .1
 
--- ---- "Errors that come easily"
+-- ---- errors that come easily (rule 11.13)
 
 unfoldable pub wrong-cases : List Case
 wrong-cases =
-    -- P8, "The difference taken the other way round": carrier 2 at tick 1
+    -- P8 with the difference turned round: carrier 2 at tick 1
     case 5 line5 (0 ∷ 4 ∷ 4 ∷ 0 ∷ 2 ∷ 1 ∷ []) (0 ∷ 1 ∷ 2 ∷ []) (planned (0 ∷ 5 ∷ 1 ∷ []) 15)
-    -- P8, "Starting after the last forbidden tick, not in the first free one": carrier 2 at tick 8
+    -- P8 with a start behind the last forbidden tick, past the free ones: carrier 2 at tick 8
     ∷ case 5 line5 (0 ∷ 4 ∷ 4 ∷ 0 ∷ 2 ∷ 1 ∷ []) (0 ∷ 1 ∷ 2 ∷ []) (planned (0 ∷ 5 ∷ 8 ∷ []) 22)
-    -- P4, "Testing meetings only": carrier 1 at tick 0
+    -- P4 where only meetings are tested: carrier 1 at tick 0
     ∷ case 4 line4 (0 ∷ 3 ∷ 3 ∷ 0 ∷ []) (0 ∷ 1 ∷ []) (planned (0 ∷ 0 ∷ []) 6)
-    -- P7, "Dropping the parity exception": carrier 1 at tick 1
+    -- P7 without the parity exception: carrier 1 at tick 1
     ∷ case 4 six-lanes (0 ∷ 1 ∷ 2 ∷ 3 ∷ []) (0 ∷ 1 ∷ []) (planned (0 ∷ 1 ∷ []) 3)
-    -- P10, "Using 65,535 as a distance in the rule": in sixteen bits it is −1, the gap −4, and the stretch −2 to 2, so carrier 1 at tick 3
+    -- P10 with the mark used as a distance: in sixteen bits it is −1, the gap −4, and the stretch −2
+    -- to 2, so carrier 1 at tick 3
     ∷ case 4 (0 ∷ 1 ∷ 2 ∷ 3 ∷ []) (0 ∷ 1 ∷ 2 ∷ 3 ∷ []) (0 ∷ 1 ∷ []) (planned (0 ∷ 3 ∷ []) 5)
     -- P11, the same of a carrier's own distance: planned, with 65,535 as the goal tick
     ∷ case 3 line2 (0 ∷ 2 ∷ []) (0 ∷ []) (planned (0 ∷ []) 65535)
@@ -51,32 +54,33 @@ pub no-wrong-case : (k : ℕ) → k < length wrong-cases → ¬ Holds (getD wron
 unfolding wrong-cases total
 no-wrong-case k h = all? (λ k. wrong? (getD wrong-cases k no-case)) (length wrong-cases) .sound tt k h .1
 
--- ---- "From numbers the order is 9, 2 (nodes, lanes, carriers, order), 3, then 4 to 6 for each move in turn, 7, 8 for the lowest carrier number"
+-- ---- the order of the checks of a job (rule 8.22)
 
 unfoldable pub refusal-cases : List Case
 refusal-cases =
-    -- "1,024 nodes pass, 1,025 give 2, `NODES 0` gives 2"
+    -- 1,024 nodes pass, 1,025 and 0 give 2
     case 1024 [] [] [] (planned [] 0)
-    ∷ case 1025 [] [] [] (refused BadCount 0)
-    ∷ case 0 [] [] [] (refused BadCount 0)
-    -- no node, a lane list of odd length and an order too long: the nodes come first, then the lanes, then the order, and all before a lane
-    ∷ case 0 (0 ∷ []) [] (0 ∷ []) (refused BadCount 0)
-    ∷ case 2 (1 ∷ 0 ∷ 0 ∷ []) [] (0 ∷ []) (refused BadCount 1)
-    ∷ case 2 (1 ∷ 0 ∷ []) [] (0 ∷ []) (refused BadCount 3)
-    -- "65 give 2"
-    ∷ case 1 [] (replicate 130 0) (replicate 65 0) (refused BadCount 2)
-    -- "lane `1 0` gives 3", before a start that is no node; a lane that stands twice
-    ∷ case 2 (1 ∷ 0 ∷ []) (0 ∷ 2 ∷ []) (0 ∷ []) (refused BadLane 0)
-    ∷ case 2 (0 ∷ 1 ∷ 0 ∷ 1 ∷ []) (0 ∷ 1 ∷ []) (0 ∷ []) (refused BadLane 1)
+    ∷ case 1025 [] [] [] (refused 2 0)
+    ∷ case 0 [] [] [] (refused 2 0)
+    -- no node, a lane list of odd length and an order too long: the nodes come first, then the lanes, then
+    -- the order, and all before a lane
+    ∷ case 0 (0 ∷ []) [] (0 ∷ []) (refused 2 0)
+    ∷ case 2 (1 ∷ 0 ∷ 0 ∷ []) [] (0 ∷ []) (refused 2 1)
+    ∷ case 2 (1 ∷ 0 ∷ []) [] (0 ∷ []) (refused 2 3)
+    -- 65 carriers give 2
+    ∷ case 1 [] (replicate 130 0) (replicate 65 0) (refused 2 2)
+    -- lane `1 0` gives 3, before a start that is no node; a lane that stands twice
+    ∷ case 2 (1 ∷ 0 ∷ []) (0 ∷ 2 ∷ []) (0 ∷ []) (refused 3 0)
+    ∷ case 2 (0 ∷ 1 ∷ 0 ∷ 1 ∷ []) (0 ∷ 1 ∷ []) (0 ∷ []) (refused 3 1)
     -- of one move 4 comes before 5; of two moves the earlier one decides, whatever its number
-    ∷ case 2 line2 (2 ∷ 2 ∷ []) (0 ∷ []) (refused OffFloor 0)
-    ∷ case 2 line2 (1 ∷ 1 ∷ 2 ∷ 0 ∷ []) (0 ∷ 1 ∷ []) (refused SameEnds 0)
-    ∷ case 4 line4 (0 ∷ 1 ∷ 0 ∷ 2 ∷ 3 ∷ 3 ∷ []) (0 ∷ 1 ∷ 2 ∷ []) (refused SharedEnd 1)
+    ∷ case 2 line2 (2 ∷ 2 ∷ []) (0 ∷ []) (refused 4 0)
+    ∷ case 2 line2 (1 ∷ 1 ∷ 2 ∷ 0 ∷ []) (0 ∷ 1 ∷ []) (refused 5 0)
+    ∷ case 4 line4 (0 ∷ 1 ∷ 0 ∷ 2 ∷ 3 ∷ 3 ∷ []) (0 ∷ 1 ∷ 2 ∷ []) (refused 6 1)
     -- a move comes before the order, and the order before a walk that is missing
-    ∷ case 2 line2 (0 ∷ 1 ∷ 1 ∷ 1 ∷ []) (0 ∷ 0 ∷ []) (refused SameEnds 1)
-    ∷ case 3 line2 (0 ∷ 2 ∷ 1 ∷ 0 ∷ []) (0 ∷ 0 ∷ []) (refused BadOrder 1)
+    ∷ case 2 line2 (0 ∷ 1 ∷ 1 ∷ 1 ∷ []) (0 ∷ 0 ∷ []) (refused 5 1)
+    ∷ case 3 line2 (0 ∷ 2 ∷ 1 ∷ 0 ∷ []) (0 ∷ 0 ∷ []) (refused 7 1)
     -- of two walks that are missing the lowest carrier number decides, whatever the order
-    ∷ case 4 line2 (0 ∷ 1 ∷ 1 ∷ 2 ∷ 2 ∷ 3 ∷ []) (2 ∷ 1 ∷ 0 ∷ []) (refused Unreachable 1)
+    ∷ case 4 line2 (0 ∷ 1 ∷ 1 ∷ 2 ∷ 2 ∷ 3 ∷ []) (2 ∷ 1 ∷ 0 ∷ []) (refused 8 1)
     ∷ []
 
 pub refusals-in-order : (k : ℕ) → k < length refusal-cases → Holds (getD refusal-cases k no-case)

@@ -1,14 +1,16 @@
--- Every two numbers have a distance, or no walk joins them. On a floor with finitely many nodes, whose nodes and lanes can be decided, it can be decided whether
--- a walk of m lanes joins two numbers: the next node is one of finitely many. Where there is a walk there is a least length, and that is below the number of
--- nodes (`dist-below`); so if no length below it has a walk then none has. On at most 1,024 nodes that is a number that stands for the distance.
--- Assumes nothing.
+-- Every two numbers have a distance, or no walk joins them. On a floor with finitely many nodes, whose nodes
+-- and lanes can be decided, it can be decided whether a walk of m lanes joins two numbers: the next node is
+-- one of finitely many. Where there is a walk there is a least length, and that is below the number of nodes
+-- (`dist-below`); so if no length below it has a walk then none has. On at most 1,024 nodes that is a number
+-- that stands for the distance. Assumes nothing.
 use mathlib.Core.Path.{_≡_, refl, subst}
 use mathlib.Core.Logic.{_⊎_, inl, inr}
 use mathlib.Core.List.{List}
 use Prim.Native.Nat.{ℕ, zero, suc, _≤_, _<_}
 use native.Mathlib.Decide.{ℕ-discrete, decLt, map-dec}
 use native.Mathlib.Omega.{arith}
-use Rattle.hall.specs.Floor.{Floor, Walk, here, step, Dist, NoWalk, DistanceIs, no-walk, distance, Lane, floorOf}
+use Rattle.hall.specs.Limits.{nodeLimit}
+use Rattle.hall.specs.Floor.{Floor, Walk, here, step, Dist, NoWalk, DistanceIs, no-walk, distance, Lane, Network, floor}
 use Rattle.hall.proofs.Walks.{begins-on-node}
 use Rattle.hall.proofs.Pigeon.{dist-below}
 use Rattle.hall.proofs.Test.{dec}
@@ -64,17 +66,17 @@ module _ {F : Floor} (n : ℕ) (finite : (v : ℕ) → F .Node v → v < n) (nod
 pub lane? : (lanes : List ℕ) (a b : ℕ) → Dec (Lane lanes a b)
 lane? lanes a b = dec (tests.lane? lanes a b)
 
-module _ (n : ℕ) (lanes : List ℕ) where
-  pub joined-or-not : (a b : ℕ) → ((d : ℕ) × Dist (floorOf n lanes) a b d) ⊎ NoWalk (floorOf n lanes) a b
-  joined-or-not = distance-or-none n (λ v h. h) (λ v. decLt v n) (lane? lanes)
+module _ (N : Network) where
+  pub joined-or-not : (a b : ℕ) → ((d : ℕ) × Dist (floor N) a b d) ⊎ NoWalk (floor N) a b
+  joined-or-not = distance-or-none (N .nodes) (λ v h. h) (λ v. decLt v (N .nodes)) (lane? (N .lanes))
 
-  pub no-walk? : (a b : ℕ) → Dec (NoWalk (floorOf n lanes) a b)
+  pub no-walk? : (a b : ℕ) → Dec (NoWalk (floor N) a b)
   no-walk? a b = cases (joined-or-not a b)
     where
-      cases : ((d : ℕ) × Dist (floorOf n lanes) a b d) ⊎ NoWalk (floorOf n lanes) a b → Dec (NoWalk (floorOf n lanes) a b)
+      cases : ((d : ℕ) × Dist (floor N) a b d) ⊎ NoWalk (floor N) a b → Dec (NoWalk (floor N) a b)
       cases (inl h) = no (λ none. none (h .0) (h .1 .walk))
       cases (inr none) = yes none
 
   -- on at most 1,024 nodes there is a number that stands for the distance
-  pub distance-exists : n ≤ 1024 → (a b : ℕ) → (r : ℕ) × DistanceIs (floorOf n lanes) a b r
-  distance-exists = number-of-distance n (λ v h. h) (λ v. decLt v n) (lane? lanes)
+  pub distance-exists : N .nodes ≤ nodeLimit → (a b : ℕ) → (r : ℕ) × DistanceIs (floor N) a b r
+  distance-exists = number-of-distance (N .nodes) (λ v h. h) (λ v. decLt v (N .nodes)) (lane? (N .lanes))

@@ -1,8 +1,10 @@
--- Demand 3: start ticks by an order keep all carriers apart, whatever shortest paths they take. Of two carriers the one that is later in the order has a tick
--- that is permitted against the earlier one, so `pair-safe` keeps the two apart; meeting and crossing do not ask who is first. A shortest path has as many
--- lanes as the distance, so the carrier stands on its goal that many ticks after its start and on no node later. The first starts at 0 and each other
--- one tick after the latest goal tick before it at the latest, by the laws of Ticks.antt. Of the job only
--- its listing is used (Sound.antt), so that starts or goals differ is used nowhere. Assumes nothing.
+-- Demand 3: start ticks by an order keep all carriers apart, whatever shortest paths they take. Of two
+-- carriers the one that is later in the order has a tick that is permitted against the earlier one, so
+-- `pair-safe` keeps the two apart; meeting and crossing do not ask who is first. A shortest path has as many
+-- lanes as the distance, so the carrier stands on its goal that many ticks after its start and on no node
+-- later. The first starts at 0 and each other one tick after the latest goal tick before it at the latest, by
+-- the laws of Ticks.antt. Of the job only its listing is used (Sound.antt), so that starts or goals differ is
+-- used nowhere. Assumes nothing.
 use mathlib.Core.Path.{_≡_, refl, sym, _∙_, ap}
 use mathlib.Core.Logic.{_≢_}
 use mathlib.Core.List.{List}
@@ -10,9 +12,10 @@ use Prim.Native.Nat.{ℕ, _+_, _-_, _≤_, _<_}
 use native.Mathlib.Decide.{decLt}
 use native.Mathlib.Omega.{arith}
 use lib.ListN.{length, getD}
-use Rattle.hall.specs.Floor.{Floor, Symmetric, Dist}
-use Rattle.hall.specs.Job.{Numbers, floor, carriers, start, goal}
-use Rattle.hall.specs.Refusals.{Checks, None}
+use Rattle.hall.specs.Floor.{Floor, Symmetric, Dist, floor}
+use Rattle.hall.specs.Job.{Numbers, carriers, start, goal}
+use Rattle.hall.specs.Stages.{None}
+use Rattle.hall.specs.Questions.{checksQuestion}
 use Rattle.hall.specs.Ticks.{Tables, own, pairOf, PermittedBy, StartTicks, goalTick, latest}
 use Rattle.hall.specs.Path.{PathOf, ShortestPath, At, Meet, Cross}
 use Rattle.hall.specs.Plan.{DistancesOf, TablesOf, Plan}
@@ -132,14 +135,14 @@ module _ {F : Floor} (both-ways : Symmetric F) (k : ℕ) (start goal : ℕ → �
 
 -- a plan keeps the carriers of a job apart, whatever shortest paths they take
 pub plan-safe-listed : (j : Numbers) (t : Tables) (tick : ℕ → ℕ) (cost : ℕ) → Listing j → Plan j t tick cost
-    → (path : ℕ → List ℕ) → ((i : ℕ) → i < carriers j → ShortestPath (floor j) (start j i) (goal j i) (path i))
-    → Demand3 (floor j) (carriers j) (start j) (goal j) t (j .order) tick path
+    → (path : ℕ → List ℕ) → ((i : ℕ) → i < carriers j → ShortestPath (floor (j .network)) (start j i) (goal j i) (path i))
+    → Demand3 (floor (j .network)) (carriers j) (start j) (goal j) t (j .order) tick path
 plan-safe-listed j t tick cost listed plan path shortest =
-    demand-three (lanes-symmetric (j .nodes) (j .lanes)) (carriers j) (start j) (goal j) t (plan .true-distances) (plan .reached) (j .order) (listed .below) tick
+    demand-three (lanes-symmetric (j .network)) (carriers j) (start j) (goal j) t (plan .true-distances) (plan .reached) (j .order) (listed .below) tick
     (plan .ticks) path shortest (place-listed j listed)
 
 -- of a job without the faults 2 to 7
-pub plan-safe : (j : Numbers) (t : Tables) (tick : ℕ → ℕ) (cost : ℕ) → None (Checks j) → Plan j t tick cost
-    → (path : ℕ → List ℕ) → ((i : ℕ) → i < carriers j → ShortestPath (floor j) (start j i) (goal j i) (path i))
-    → Demand3 (floor j) (carriers j) (start j) (goal j) t (j .order) tick path
+pub plan-safe : (j : Numbers) (t : Tables) (tick : ℕ → ℕ) (cost : ℕ) → None (checksQuestion j) → Plan j t tick cost
+    → (path : ℕ → List ℕ) → ((i : ℕ) → i < carriers j → ShortestPath (floor (j .network)) (start j i) (goal j i) (path i))
+    → Demand3 (floor (j .network)) (carriers j) (start j) (goal j) t (j .order) tick path
 plan-safe j t tick cost sound = plan-safe-listed j t tick cost (listing j sound)

@@ -1,7 +1,9 @@
--- Every job without faults has a plan, so nothing is promised of the empty set. The distances exist on at most 1,024 nodes, and each own distance is one since
--- fault 8 does not hold; of the faults 2 to 7 the proof uses the node count and the listing alone (Sound.antt). It can be decided whether a tick is permitted
--- against the carriers placed before, and one tick after their latest goal tick is permitted, so there is a smallest permitted tick. The ticks are then made place
--- by place: since no carrier stands twice in the order, giving the next carrier its tick changes none of the earlier ones. Assumes nothing.
+-- Every job without faults has a plan, so nothing is promised of the empty set. The distances exist on at
+-- most 1,024 nodes, and each own distance is one since fault 8 does not hold; of the faults 2 to 7 the proof
+-- uses the node count and the listing alone (Sound.antt). It can be decided whether a tick is permitted
+-- against the carriers placed before, and one tick after their latest goal tick is permitted, so there is a
+-- smallest permitted tick. The ticks are then made place by place: since no carrier stands twice in the
+-- order, giving the next carrier its tick changes none of the earlier ones. Assumes nothing.
 --     TicksUpTo      the ticks of the carriers at the first n places are the smallest permitted
 --     Planned        a job has a plan
 use mathlib.Core.Path.{_≡_, sym, subst}
@@ -12,14 +14,15 @@ use native.Mathlib.Nat.{not-suc-le-zero, le-refl}
 use native.Mathlib.Decide.{ℕ-discrete, decLe, decLt}
 use native.Mathlib.Omega.{arith}
 use lib.ListN.{length, getD}
-use Rattle.hall.specs.declared.Fault.the-variants.{Unreachable}
-use Rattle.hall.specs.Floor.{NoWalk, DistanceIs, no-walk, distance}
-use Rattle.hall.specs.Job.{Numbers, floor, carriers, start, goal}
-use Rattle.hall.specs.Refusals.{None}
+use Rattle.hall.specs.Floor.{NoWalk, DistanceIs, no-walk, distance, floor}
+use Rattle.hall.specs.Job.{Numbers, carriers, start, goal}
+use Rattle.hall.specs.Limits.{nodeLimit}
+use Rattle.hall.specs.Stages.{None}
+use Rattle.hall.specs.Questions.{jobQuestion}
 use Rattle.hall.specs.Ticks.{SmallestFrom, PermittedBy, Tables, own, pairOf, PermittedAt, StartTicks, goalTick, latest, costOf}
-use Rattle.hall.specs.Plan.{TablesOf, Plan, JobFaults}
+use Rattle.hall.specs.Plan.{TablesOf, Plan}
 use Rattle.hall.proofs.Ticks.{past-goal, latest-bounds, carry}
-use Rattle.hall.proofs.Sound.{Listing, listing, checks-of-none, nodes-limit}
+use Rattle.hall.proofs.Sound.{Listing, listing, checks-of-none, walks-of-none, nodes-limit}
 use Rattle.hall.proofs.Lowest.{dec-and, lowest-of}
 use Rattle.hall.proofs.Test.{dec}
 use Rattle.hall.proofs.TickTests.{permitted-by?}
@@ -111,8 +114,9 @@ pub record Planned (j : Numbers) : Type 0 where
   pub cost : ℕ
   pub plan : Plan j tables tick cost
 
-module _ (j : Numbers) (listed : Listing j) (limit : j .nodes ≤ 1024) (walks : (i : ℕ) → i < carriers j → ¬ NoWalk (floor j) (start j i) (goal j i)) where
-  tables-exist : (t : Tables) × TablesOf (floor j) (carriers j) (start j) (goal j) t
+module _ (j : Numbers) (listed : Listing j) (limit : j .network .nodes ≤ nodeLimit)
+    (walks : (i : ℕ) → i < carriers j → ¬ NoWalk (floor (j .network)) (start j i) (goal j i)) where
+  tables-exist : (t : Tables) × TablesOf (floor (j .network)) (carriers j) (start j) (goal j) t
   tables-exist = (
     record { ss = λ a b. far (start j a) (start j b) .0; sg = λ a b. far (start j a) (goal j b) .0; gg = λ a b. far (goal j a) (goal j b) .0 },
     record {
@@ -122,11 +126,11 @@ module _ (j : Numbers) (listed : Listing j) (limit : j .nodes ≤ 1024) (walks :
     },
   )
     where
-      far : (a b : ℕ) → (r : ℕ) × DistanceIs (floor j) a b r
-      far = distance-exists (j .nodes) (j .lanes) limit
+      far : (a b : ℕ) → (r : ℕ) × DistanceIs (floor (j .network)) a b r
+      far = distance-exists (j .network) limit
 
   -- a carrier's own distance is one
-  own-reached : (i r : ℕ) → i < carriers j → DistanceIs (floor j) (start j i) (goal j i) r → r ≢ 65535
+  own-reached : (i r : ℕ) → i < carriers j → DistanceIs (floor (j .network)) (start j i) (goal j i) r → r ≢ 65535
   own-reached i r h (no-walk e nothing) = absurd (walks i h nothing)
   own-reached i r h (distance small d) = omega arith
 
@@ -150,5 +154,7 @@ module _ (j : Numbers) (listed : Listing j) (limit : j .nodes ≤ 1024) (walks :
       tick = ticks-exist t (j .order) (listed .once) .0
 
 -- of a job without the faults 2 to 8
-pub plan-exists : (j : Numbers) → None (JobFaults j) → Planned j
-plan-exists j none = let sound = checks-of-none j none in plan-exists-listed j (listing j sound) (nodes-limit j sound) (λ i h nothing. none Unreachable i (h, nothing))
+pub plan-exists : (j : Numbers) → None (jobQuestion j) → Planned j
+plan-exists j none =
+    let sound = checks-of-none j none in
+    plan-exists-listed j (listing j sound) (nodes-limit j sound) (walks-of-none j none)

@@ -1,5 +1,6 @@
--- Computed tests of labels on the floor of a network, and labels to test. The labels are guessed by sweeping the lanes once for each node; nothing is
--- proved of the guess, since labels that pass are the distances (`labels-are`). Assumes nothing.
+-- Computed tests of labels on the floor of a network, and labels to test. The labels are guessed by sweeping
+-- the lanes once for each node; nothing is proved of the guess, since labels that pass are the distances
+-- (`labels-are`). Assumes nothing.
 use mathlib.Core.Path.{_≡_}
 use mathlib.Core.Logic.{_⊎_, inl, inr, _≢_}
 use mathlib.Core.List.{List, [], _∷_}
@@ -7,7 +8,7 @@ use Prim.Native.Nat.{ℕ, zero, suc, _+_, _≤_, _<_, min}
 use native.Mathlib.Decide.{decLt}
 use native.Mathlib.Omega.{arith}
 use lib.ListN.{getD, set, replicate}
-use Rattle.hall.specs.Floor.{NoWalk, DistanceIs, no-walk, distance, laneCount, lower, higher, Lane, floorOf}
+use Rattle.hall.specs.Floor.{NoWalk, DistanceIs, no-walk, distance, laneCount, lower, higher, Lane, Network, floor}
 use Rattle.hall.proofs.Walks.{begins-on-node, ends-on-node}
 use Rattle.hall.proofs.Labels.{Before, Labels}
 use Rattle.hall.proofs.Test.{Test, Some, le?, lt?, eq?, not?, _and?_, _or?_, _implies?_, map?, all?, any?}
@@ -25,8 +26,8 @@ abbrev pub sweeps : ℕ → List ℕ → List ℕ → List ℕ
 sweeps zero lanes l = l
 sweeps (suc n) lanes l = sweeps n lanes (sweep lanes l)
 
-abbrev pub guess : (n : ℕ) (lanes : List ℕ) (s : ℕ) → List ℕ
-guess n lanes s = sweeps n lanes (set (replicate n 65535) s 0)
+abbrev pub guess : (N : Network) (s : ℕ) → List ℕ
+guess N s = sweeps (N .nodes) (N .lanes) (set (replicate (N .nodes) 65535) s 0)
 
 -- ---- the tests
 
@@ -38,49 +39,49 @@ lane? lanes a b =
     map? {A = Some (Ends lanes a b) (laneCount lanes)} (λ h. record { k = h .k; inside = h .below; ends = h .is }) (λ l. record { k = l .k; below = l .inside; is = l .ends })
     (any? (λ k. (eq? (lower lanes k) a and? eq? (higher lanes k) b) or? (eq? (lower lanes k) b and? eq? (higher lanes k) a)) (laneCount lanes))
 
-module _ (n : ℕ) (lanes : List ℕ) (s : ℕ) (label : ℕ → ℕ) where
-  abbrev pub before? : (v : ℕ) → Test (Before (floorOf n lanes) label v)
+module _ (N : Network) (s : ℕ) (label : ℕ → ℕ) where
+  abbrev pub before? : (v : ℕ) → Test (Before (floor N) label v)
   before? v =
-      map? {A = Some (λ u. Lane lanes u v × (label u + 1 ≡ label v)) n}
+      map? {A = Some (λ u. Lane (N .lanes) u v × (label u + 1 ≡ label v)) (N .nodes)}
       (λ h. record { node = h .k; is-node = h .below; lane = h .is .0; less = h .is .1 }) (λ b. record { k = b .node; below = b .is-node; is = (b .lane, b .less) })
-      (any? (λ u. lane? lanes u v and? eq? (label u + 1) (label v)) n)
+      (any? (λ u. lane? (N .lanes) u v and? eq? (label u + 1) (label v)) (N .nodes))
 
   abbrev pub Near : ℕ → ℕ → Type 0
-  Near a b = Lane lanes a b → label a ≢ 65535 → (label b ≢ 65535) × (label b ≤ label a + 1)
+  Near a b = Lane (N .lanes) a b → label a ≢ 65535 → (label b ≢ 65535) × (label b ≤ label a + 1)
 
   abbrev pub near? : (a b : ℕ) → Test (Near a b)
-  near? a b = lane? lanes a b implies? not? (eq? (label a) 65535) implies? (not? (eq? (label b) 65535) and? le? (label b) (label a + 1))
+  near? a b = lane? (N .lanes) a b implies? not? (eq? (label a) 65535) implies? (not? (eq? (label b) 65535) and? le? (label b) (label a + 1))
 
   abbrev pub Labelled-node : ℕ → Type 0
-  Labelled-node v = label v ≢ 65535 → (label v ≤ 1023) × ((v ≡ s) ⊎ Before (floorOf n lanes) label v)
+  Labelled-node v = label v ≢ 65535 → (label v ≤ 1023) × ((v ≡ s) ⊎ Before (floor N) label v)
 
-  abbrev pub labels? : Test (Labels (floorOf n lanes) s label)
+  abbrev pub labels? : Test (Labels (floor N) s label)
   labels? =
-      map? {A = (s < n) × ((label s ≡ 0) × (((a : ℕ) → a < n → (b : ℕ) → b < n → Near a b) × ((v : ℕ) → v < n → Labelled-node v)))}
+      map? {A = (s < N .nodes) × ((label s ≡ 0) × (((a : ℕ) → a < N .nodes → (b : ℕ) → b < N .nodes → Near a b) × ((v : ℕ) → v < N .nodes → Labelled-node v)))}
       (λ h. record { on-node = h .0; source = h .1 .0; near = λ a b l m. h .1 .1 .0 a l b m; small = λ v l m. h .1 .1 .1 v l m .0; back = λ v l m. h .1 .1 .1 v l m .1 })
       (λ l. (l .on-node, (l .source, ((λ a h b m. l .near a b h m), λ v h m. (l .small v h m, l .back v h m)))))
-      (lt? s n and? eq? (label s) 0 and? all? (λ a. all? (λ b. near? a b) n) n and? all? (λ v. not? (eq? (label v) 65535) implies? (le? (label v) 1023 and? (eq? v s or? before? v))) n)
+      (lt? s (N .nodes) and? eq? (label s) 0 and? all? (λ a. all? (λ b. near? a b) (N .nodes)) (N .nodes) and? all? (λ v. not? (eq? (label v) 65535) implies? (le? (label v) 1023 and? (eq? v s or? before? v))) (N .nodes))
 
 -- ---- no walk
 
-module _ (n : ℕ) (lanes : List ℕ) (s g r : ℕ) (is : s < n → g < n → DistanceIs (floorOf n lanes) s g r) where
-  no-walk-if : s < n → DistanceIs (floorOf n lanes) s g r → r ≡ 65535 → NoWalk (floorOf n lanes) s g
+module _ (N : Network) (s g r : ℕ) (is : s < N .nodes → g < N .nodes → DistanceIs (floor N) s g r) where
+  no-walk-if : s < N .nodes → DistanceIs (floor N) s g r → r ≡ 65535 → NoWalk (floor N) s g
   no-walk-if h (no-walk e f) x = f
   no-walk-if h (distance small d) x = absurd (let y : ⊥ = omega arith in y)
 
-  mark-if : DistanceIs (floorOf n lanes) s g r → NoWalk (floorOf n lanes) s g → r ≡ 65535
+  mark-if : DistanceIs (floor N) s g r → NoWalk (floor N) s g → r ≡ 65535
   mark-if (no-walk e f) x = e
   mark-if (distance small d) x = absurd (x r (d .walk))
 
-  pub no-walk-is : (n ≤ s) ⊎ ((n ≤ g) ⊎ (r ≡ 65535)) → NoWalk (floorOf n lanes) s g
-  no-walk-is (inl h) k w = let l : s < n = begins-on-node w in omega arith
-  no-walk-is (inr (inl h)) k w = let l : g < n = ends-on-node w in omega arith
+  pub no-walk-is : (N .nodes ≤ s) ⊎ ((N .nodes ≤ g) ⊎ (r ≡ 65535)) → NoWalk (floor N) s g
+  no-walk-is (inl h) k w = let l : s < N .nodes = begins-on-node w in omega arith
+  no-walk-is (inr (inl h)) k w = let l : g < N .nodes = ends-on-node w in omega arith
   no-walk-is (inr (inr e)) k w = no-walk-if (begins-on-node w) (is (begins-on-node w) (ends-on-node w)) e k w
 
-  pub is-no-walk : NoWalk (floorOf n lanes) s g → (n ≤ s) ⊎ ((n ≤ g) ⊎ (r ≡ 65535))
-  is-no-walk f = cases (decLt s n) (decLt g n)
+  pub is-no-walk : NoWalk (floor N) s g → (N .nodes ≤ s) ⊎ ((N .nodes ≤ g) ⊎ (r ≡ 65535))
+  is-no-walk f = cases (decLt s (N .nodes)) (decLt g (N .nodes))
     where
-      cases : Dec (s < n) → Dec (g < n) → (n ≤ s) ⊎ ((n ≤ g) ⊎ (r ≡ 65535))
+      cases : Dec (s < N .nodes) → Dec (g < N .nodes) → (N .nodes ≤ s) ⊎ ((N .nodes ≤ g) ⊎ (r ≡ 65535))
       cases (no h) d = inl (omega arith)
       cases (yes h) (no l) = inr (inl (omega arith))
       cases (yes h) (yes l) = inr (inr (mark-if (is h l) f))

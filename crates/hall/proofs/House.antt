@@ -1,7 +1,8 @@
--- A move has exactly one house path. At most one: two that agree up to a node take the same next one, since each is not above the other. At least one: where a walk of
--- d + 1 lanes leads to the goal there is a neighbour with a walk of d lanes, it can be decided which numbers are such neighbours, so there is a lowest one; from it
--- the rest is the house path by induction over d. A neighbour with a walk of d lanes has distance d, since a shorter way from it would make a shorter way of the
--- whole. Assumes nothing.
+-- A move has exactly one house path. At most one: two that agree up to a node take the same next one, since
+-- each is not above the other. At least one: where a walk of d + 1 lanes leads to the goal there is a
+-- neighbour with a walk of d lanes, it can be decided which numbers are such neighbours, so there is a lowest
+-- one; from it the rest is the house path by induction over d. A neighbour with a walk of d lanes has
+-- distance d, since a shorter way from it would make a shorter way of the whole. Assumes nothing.
 use mathlib.Core.Path.{_≡_, refl, sym, _∙_, subst}
 use mathlib.Core.List.{List, [], _∷_}
 use Prim.Native.Nat.{ℕ, zero, suc, _+_, _-_, _≤_, _<_}
@@ -11,7 +12,7 @@ use native.Mathlib.Numerals.{add-one}
 use native.Mathlib.Omega.{arith}
 use lib.ListN.{length, getD}
 use lib.Seq.{ext-getD}
-use Rattle.hall.specs.Floor.{Floor, Walk, here, step, Dist, floorOf}
+use Rattle.hall.specs.Floor.{Floor, Walk, here, step, Dist, Network, floor}
 use Rattle.hall.specs.Path.{PathOf, HousePath}
 use Rattle.hall.proofs.Walks.{begins-on-node}
 use Rattle.hall.proofs.Lists.{path-one, path-cons}
@@ -84,5 +85,5 @@ module _ {F : Floor} where
         (s ∷ rest .0, house-cons short (low .1 .0) (low .2) (rest .1))
 
 -- of a move on a network whose goal can be reached
-pub house-exists : (n : ℕ) (lanes : List ℕ) {s g d : ℕ} → Dist (floorOf n lanes) s g d → (l : List ℕ) × HousePath (floorOf n lanes) s g d l
-house-exists n lanes {d = d} = house-on-floor n (λ v h. h) (λ v. decLt v n) (lane? lanes) d
+pub house-exists : (N : Network) {s g d : ℕ} → Dist (floor N) s g d → (l : List ℕ) × HousePath (floor N) s g d l
+house-exists N {d = d} = house-on-floor (N .nodes) (λ v h. h) (λ v. decLt v (N .nodes)) (lane? (N .lanes)) d

@@ -1,49 +1,36 @@
--- Computed tests of a job with an outcome. The tables of the job are guessed and tested to be true distances; where they are, each fault of the job is a
--- computed question, and by uniqueness of distances every plan of the job is one by these tables. So a test of an outcome passes exactly if the outcome is
--- what the definitions give. Assumes nothing.
+-- Computed tests of a job with an outcome. The tables of the job are guessed and tested to be true distances;
+-- where they are, each stage of the job is a computed question, and by uniqueness of distances every plan of
+-- the job is one by these tables. So a test of an outcome passes exactly if the outcome is what the
+-- definitions give. Assumes nothing.
 use mathlib.Core.Path.{_≡_, _∙_, ap}
 use mathlib.Core.Logic.{_⊎_, inl, inr}
 use mathlib.Core.List.{List}
 use Prim.Native.Nat.{ℕ, _+_, _≤_, _<_}
-use native.Mathlib.Decide.{decLt}
 use native.Mathlib.Omega.{arith}
 use lib.ListN.{length, getD}
-use Rattle.hall.specs.declared.Fault.{Fault}
-use Rattle.hall.specs.declared.Fault.the-variants.{Malformed, BadCount, BadLane, OffFloor, SameEnds, SharedEnd, BadOrder, Unreachable, ShortTable, NoCarrier, NotShortest}
-use Rattle.hall.specs.Floor.{DistanceIs}
-use Rattle.hall.specs.Job.{Numbers, floor, carriers, start, goal}
-use Rattle.hall.specs.Refusals.{None}
+use Rattle.hall.specs.Floor.{DistanceIs, NoWalk, floor}
+use Rattle.hall.specs.Job.{Numbers, carriers, start, goal, EndsOn}
+use Rattle.hall.specs.Stages.{None}
+use Rattle.hall.specs.Said.{accepted, refused}
+use Rattle.hall.specs.Questions.{walkChecks, eachWalk, jobQuestion}
 use Rattle.hall.specs.Ticks.{Tables, own, StartTicks, goalTick, costOf}
-use Rattle.hall.specs.Plan.{TablesOf, JobFaults}
-use Rattle.hall.specs.Case.{Outcome, planned, refused, Accepted, Gives}
+use Rattle.hall.specs.Plan.{TablesOf}
+use Rattle.hall.specs.Case.{Schedule, Outcome, Accepted, Gives}
 use Rattle.hall.proofs.Labels.{Labels, labels-are}
 use Rattle.hall.proofs.Ticks.{total-same}
-use Rattle.hall.proofs.Sound.{checks-of-none, entry-below}
+use Rattle.hall.proofs.Sound.{checks-of-none, walks-of-none, ends-on, entry-below}
 use Rattle.hall.proofs.PlanLaws.{SameTables, tables-unique, ticks-same}
-use Rattle.hall.proofs.Test.{Test, le?, lt?, eq?, never?, _and?_, _or?_, _implies?_, map?, all?}
+use Rattle.hall.proofs.Test.{Test, le?, lt?, eq?, _and?_, _or?_, _implies?_, map?, all?}
 use Rattle.hall.proofs.TickTests.{start-ticks?}
-use Rattle.hall.proofs.FaultTests.{checks?, none?, first?}
-use Rattle.hall.proofs.Complete.{places, fault-place}
+use Rattle.hall.proofs.StageTests.{Tested, TestedAll, each-beyond, none?, first?}
+use Rattle.hall.proofs.FaultTests.{job?}
 use Rattle.hall.proofs.FloorTests.{guess, labels?, no-walk-is, is-no-walk}
-
--- ---- a job without faults
-
-not-refuted : {A : Type 0} → Dec A → ¬ (¬ A) → A
-not-refuted (yes a) h = a
-not-refuted (no a) h = absurd (h a)
-
-module _ (j : Numbers) (none : None (JobFaults j)) where
-  pub start-on : (i : ℕ) → i < carriers j → start j i < j .nodes
-  start-on i h = not-refuted (decLt (start j i) (j .nodes)) (λ l. none OffFloor i (h, inl (omega arith)))
-
-  pub goal-on : (i : ℕ) → i < carriers j → goal j i < j .nodes
-  goal-on i h = not-refuted (decLt (goal j i) (j .nodes)) (λ l. none OffFloor i (h, inr (omega arith)))
 
 -- ---- distances
 
 module _ (j : Numbers) where
   abbrev pub label : ℕ → ℕ → ℕ
-  label s v = getD (guess (j .nodes) (j .lanes) s) v 65535
+  label s v = getD (guess (j .network) s) v 65535
 
   abbrev pub guessed : Tables
   guessed = record {
@@ -54,10 +41,10 @@ module _ (j : Numbers) where
 
   -- the labels from a node are its distances
   abbrev pub LabelledFrom : ℕ → Type 0
-  LabelledFrom s = s < j .nodes → Labels (floor j) s (label s)
+  LabelledFrom s = s < j .network .nodes → Labels (floor (j .network)) s (label s)
 
   abbrev pub labelled-from? : (s : ℕ) → Test (LabelledFrom s)
-  labelled-from? s = lt? s (j .nodes) implies? labels? (j .nodes) (j .lanes) s (label s)
+  labelled-from? s = lt? s (j .network .nodes) implies? labels? (j .network) s (label s)
 
   abbrev pub Labelled : Type 0
   Labelled = (i : ℕ) → i < carriers j → LabelledFrom (start j i) × LabelledFrom (goal j i)
@@ -67,76 +54,82 @@ module _ (j : Numbers) where
 
   -- ---- faults
 
-  -- by the labels no walk leads from the start of carrier i to its goal
-  abbrev pub Unreached : ℕ → Type 0
-  Unreached i = (i < carriers j) × ((j .nodes ≤ start j i) ⊎ ((j .nodes ≤ goal j i) ⊎ (own guessed i ≡ 65535)))
-
-  abbrev pub unreached? : (i : ℕ) → Test (Unreached i)
-  unreached? i = lt? i (carriers j) and? (le? (j .nodes) (start j i) or? le? (j .nodes) (goal j i) or? eq? (own guessed i) 65535)
-
-  pub inside : (f : Fault) (p : ℕ) → JobFaults j f p → p < places j + 0
-  inside = fault-place ⊥ j (λ n. ⊥) 0 (λ n h. absurd h) ⊥
-
   module _ (true-labels : Labelled) where
-    own-is : (i : ℕ) → i < carriers j → start j i < j .nodes → goal j i < j .nodes → DistanceIs (floor j) (start j i) (goal j i) (own guessed i)
+    pub own-is : (i : ℕ) → i < carriers j → start j i < j .network .nodes → goal j i < j .network .nodes →
+        DistanceIs (floor (j .network)) (start j i) (goal j i) (own guessed i)
     own-is i h s g = labels-are (true-labels i h .0 s) (goal j i) g
 
-    pub unreachable : (i : ℕ) → Unreached i → JobFaults j Unreachable i
-    unreachable i h = (h .0, no-walk-is (j .nodes) (j .lanes) (start j i) (goal j i) (own guessed i) (own-is i (h .0)) (h .1))
+    -- by the labels no walk leads from the start of carrier i to its goal
+    abbrev pub Unreached : ℕ → Type 0
+    Unreached i =
+        (i < carriers j)
+        × ((j .network .nodes ≤ start j i) ⊎ ((j .network .nodes ≤ goal j i) ⊎ (own guessed i ≡ 65535)))
 
-    pub unreachable-case : (i : ℕ) → JobFaults j Unreachable i → Unreached i
-    unreachable-case i h = (h .0, is-no-walk (j .nodes) (j .lanes) (start j i) (goal j i) (own guessed i) (own-is i (h .0)) (h .1))
+    abbrev pub unreached? : (i : ℕ) → Test ((i < carriers j) × NoWalk (floor (j .network)) (start j i) (goal j i))
+    unreached? i =
+        map? {A = Unreached i}
+        (λ h. (h .0, no-walk-is (j .network) (start j i) (goal j i) (own guessed i) (own-is i (h .0)) (h .1)))
+        (λ h. (h .0, is-no-walk (j .network) (start j i) (goal j i) (own guessed i) (own-is i (h .0)) (h .1)))
+        (lt? i (carriers j)
+        and? (le? (j .network .nodes) (start j i) or? le? (j .network .nodes) (goal j i) or? eq? (own guessed i) 65535))
 
-    abbrev pub fault? : (f : Fault) (p : ℕ) → Test (JobFaults j f p)
-    fault? Malformed p = never?
-    fault? BadCount p = checks? j BadCount p
-    fault? BadLane p = checks? j BadLane p
-    fault? OffFloor p = checks? j OffFloor p
-    fault? SameEnds p = checks? j SameEnds p
-    fault? SharedEnd p = checks? j SharedEnd p
-    fault? BadOrder p = checks? j BadOrder p
-    fault? Unreachable i = map? (unreachable i) (unreachable-case i) (unreached? i)
-    fault? ShortTable p = eq? p 0 and? never?
-    fault? NoCarrier p = never?
-    fault? NotShortest p = eq? p 0 and? never?
+    abbrev pub walks? : Tested (eachWalk (j .network) (j .moves))
+    walks? = record {
+      places = carriers j;
+      at = λ i. (unreached? i, tt);
+      beyond = λ i. each-beyond (carriers j) i (walkChecks (j .network) (j .moves));
+    }
+
+    abbrev pub tested : TestedAll (jobQuestion j)
+    tested = job? j walks?
 
     -- ---- an accepted job
 
-    pub guessed-true : None (JobFaults j) → TablesOf (floor j) (carriers j) (start j) (goal j) guessed
+    pub guessed-true : None (jobQuestion j) →
+        TablesOf (floor (j .network)) (carriers j) (start j) (goal j) guessed
     guessed-true none = record {
-      starts = λ i k hi hk. labels-are (true-labels i hi .0 (start-on j none i hi)) (start j k) (start-on j none k hk);
-      goals = λ i k hi hk. labels-are (true-labels i hi .1 (goal-on j none i hi)) (goal j k) (goal-on j none k hk);
-      start-goal = λ i k hi hk. labels-are (true-labels i hi .0 (start-on j none i hi)) (goal j k) (goal-on j none k hk);
+      starts = λ i k hi hk. labels-are (true-labels i hi .0 (on .starts i hi)) (start j k) (on .starts k hk);
+      goals = λ i k hi hk. labels-are (true-labels i hi .1 (on .goals i hi)) (goal j k) (on .goals k hk);
+      start-goal = λ i k hi hk. labels-are (true-labels i hi .0 (on .starts i hi)) (goal j k) (on .goals k hk);
     }
+      where
+        on : EndsOn (floor (j .network)) (j .moves)
+        on = ends-on j (checks-of-none j none)
 
-    module _ (ticks : List ℕ) (cost : ℕ) where
+    module _ (s : Schedule) where
       abbrev pub tick : ℕ → ℕ
-      tick i = getD ticks i 0
+      tick i = getD (s .ticks) i 0
 
       abbrev pub ByGuess : Type 0
-      ByGuess = None (JobFaults j) × ((length ticks ≡ carriers j) × (StartTicks guessed (j .order) tick × (cost ≡ costOf guessed tick (carriers j))))
+      ByGuess =
+          None (jobQuestion j)
+          × ((length (s .ticks) ≡ carriers j)
+          × (StartTicks guessed (j .order) tick × (s .cost ≡ costOf guessed tick (carriers j))))
 
-      pub accepted : ByGuess → Accepted j ticks cost
-      accepted h = record {
+      pub by-guess-accepted : ByGuess → Accepted j s
+      by-guess-accepted h = record {
         no-fault = h .0;
         one-each = h .1 .0;
         tables = guessed;
         plan = record {
           true-distances = guessed-true (h .0);
-          reached = λ i l e. h .0 Unreachable i (unreachable i (l, inr (inr e)));
+          reached = λ i l e. walks-of-none j (h .0) i l
+              (no-walk-is (j .network) (start j i) (goal j i) (own guessed i) (own-is i l) (inr (inr e)));
           ticks = h .1 .1 .0;
           cost-is = h .1 .1 .1;
         };
       }
 
-      pub by-guess : Accepted j ticks cost → ByGuess
-      by-guess a = (
+      pub accepted-by-guess : Accepted j s → ByGuess
+      accepted-by-guess a = (
         a .no-fault,
         (
           a .one-each,
           (
             ticks-same (j .order) (entry-below j (checks-of-none j (a .no-fault))) tick same (a .plan .ticks),
-            a .plan .cost-is ∙ total-same (carriers j) (goalTick (a .tables) tick) (goalTick guessed tick) (λ i h. ap (λ n. tick i + n) (same .sg i i h h)),
+            a .plan .cost-is
+                ∙ total-same (carriers j) (goalTick (a .tables) tick) (goalTick guessed tick)
+                (λ i h. ap (λ n. tick i + n) (same .sg i i h h)),
           ),
         ),
       )
@@ -144,11 +137,14 @@ module _ (j : Numbers) where
           same : SameTables (carriers j) (a .tables) guessed
           same = tables-unique (a .plan .true-distances) (guessed-true (a .no-fault))
 
-      abbrev pub accepted? : Test (Accepted j ticks cost)
+      abbrev pub accepted? : Test (Accepted j s)
       accepted? =
-          map? accepted by-guess
-          (none? (JobFaults j) fault? (places j + 0) inside and? eq? (length ticks) (carriers j) and? start-ticks? guessed (j .order) tick and? eq? cost (costOf guessed tick (carriers j)))
+          map? by-guess-accepted accepted-by-guess
+          (none? (jobQuestion j) tested
+          and? eq? (length (s .ticks)) (carriers j)
+          and? start-ticks? guessed (j .order) tick
+          and? eq? (s .cost) (costOf guessed tick (carriers j)))
 
     abbrev pub gives? : (o : Outcome) → Test (Gives j o)
-    gives? (planned ticks cost) = accepted? ticks cost
-    gives? (refused fault place) = first? (JobFaults j) fault? (places j + 0) inside fault place
+    gives? (accepted s) = accepted? s
+    gives? (refused n p) = first? (jobQuestion j) tested n p

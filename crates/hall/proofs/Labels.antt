@@ -1,6 +1,7 @@
--- A certificate: labels that are the distances from a source. It names no search, so that whatever finds the labels has these five facts to show and
--- nothing else. Along a walk the label rises by one a lane at the most, so no walk is shorter than the label; going back from node to node, each label
--- one less, gives a walk as long as the label. Assumes nothing.
+-- A certificate: labels that are the distances from a source. It names no search, so that whatever finds the
+-- labels has these five facts to show and nothing else. Along a walk the label rises by one a lane at the
+-- most, so no walk is shorter than the label; going back from node to node, each label one less, gives a walk
+-- as long as the label. Assumes nothing.
 --     Before     a labelled node from which a lane goes to v, labelled one less
 --     Labels     the certificate; 65,535 marks what no walk reaches
 use mathlib.Core.Path.{_≡_}

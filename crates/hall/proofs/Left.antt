@@ -1,13 +1,19 @@
--- Laws of a zeroed table, by induction over its length: it keeps its length, is zero below n and as it was from n on, and a loop that sets one place
--- after the other to zero makes it. Assumes nothing.
-use mathlib.Core.Path.{_≡_, refl, sym, _∙_, ap}
+-- What a refusal leaves: 9 leaves a table as it came, any other zeroes its least length. One test of the
+-- number decides it, so that a new fault changes nothing here; a question whose stages lack 9 gives another
+-- number. A zeroed table keeps its length, is zero below n and as it was from n on, and a loop that sets one
+-- place after the other to zero makes it, by induction over its length. Assumes nothing.
+--     NotNine n        the number n is not 9
+--     Among P q        every number that the question q can give has the property P
+use mathlib.Core.Path.{_≡_, refl, sym, _∙_, ap, subst}
 use mathlib.Core.List.{List, [], _∷_}
 use Prim.Native.Nat.{ℕ, zero, suc, _+_, _≤_, _<_}
 use native.Mathlib.Nat.{not-suc-le-zero, le-of-suc-le-suc}
 use native.Mathlib.Numerals.{add-one}
 use native.Mathlib.Omega.{arith}
 use lib.ListN.{length, getD, set}
-use Rattle.hall.specs.Left.{zeroed}
+use borrow.Author.Tests.{ne-eqb}
+use Rattle.hall.specs.Stages.{Stage, Question, here, later, FirstAt, FirstStage, First}
+use Rattle.hall.specs.Left.{zeroed, left}
 
 pub zeroed-length : (n : ℕ) (t : List ℕ) → length (zeroed n t) ≡ length t
 unfolding zeroed
@@ -52,3 +58,36 @@ zeroed-short zero [] h = refl
 zeroed-short zero (x ∷ t) h = absurd (not-suc-le-zero h)
 zeroed-short (suc n) [] h = refl
 zeroed-short (suc n) (x ∷ t) h = ap (λ (l : List ℕ). 0 ∷ l) (zeroed-short n t (le-of-suc-le-suc h))
+
+-- ---- what a refusal leaves
+
+abbrev pub NotNine : ℕ → Type 0
+NotNine n = ¬ (n ≡ 9)
+
+pub left-by-other : (k n : ℕ) (t : List ℕ) → NotNine k → left k n t ≡ zeroed n t
+left-by-other k n t other = rw (ne-eqb k 9 other)
+
+abbrev pub AmongStage : (ℕ → Type 0) → Stage → Type 0
+AmongStage P [] = Unit
+AmongStage P (c ∷ s) = P (c .number) × AmongStage P s
+
+abbrev pub Among : (ℕ → Type 0) → Question → Type 0
+Among P [] = Unit
+Among P (s ∷ q) = AmongStage P s × Among P q
+
+pub first-among : (P : ℕ → Type 0) {q : Question} {f p : ℕ} → Among P q → First q f p → P f
+first-among P {q} {f} {p} among h = go q among (h .in-turn)
+  where
+    in-stage : (s : Stage) → AmongStage P s → FirstAt s f p → P f
+    in-stage [] a h = absurd h
+    in-stage (c ∷ s) a (here h) = subst P (sym (h .0)) (a .0)
+    in-stage (c ∷ s) a (later k h) = in-stage s (a .1) h
+
+    go : (q : Question) → Among P q → FirstStage q f p → P f
+    go [] a h = absurd h
+    go (s ∷ q) a (here h) = in-stage s (a .0) (h .holds)
+    go (s ∷ q) a (later n h) = go q (a .1) h
+
+-- a question without 9 zeroes
+pub left-zeroed : {q : Question} {f p : ℕ} → Among NotNine q → First q f p → (n : ℕ) (t : List ℕ) → left f n t ≡ zeroed n t
+left-zeroed {f = f} among h n t = left-by-other f n t (first-among NotNine among h)

@@ -1,14 +1,17 @@
--- The laws of the definitions in specs/, from the bottom up. The laws of plans (those that end in -listed, and what they cite) use of a job that its order lists each
--- carrier once, and not that starts or goals differ.
+-- The laws of the definitions in specs/, from the bottom up. The laws of plans (those that end in -listed,
+-- and what they cite) use of a job that its order lists each carrier once, and not that starts or goals
+-- differ.
 --     numbers       Ints, Left, Answers, Lowest, Test
---     the floor     Walks, Lists, Paths, Pigeon, Labels, FloorTests, Decide, House
+--     the floor     Walks, Lists, LaneList, Paths, Pigeon, Labels, FloorTests, Decide, House
 --     the rule      Rules, Ranges, Safe, Ticks, TickTests
---     refusals      Refusals, FaultTests, FirstFault, Complete, Sound, WellFormed
+--     refusals      Numbers, Stages, Compose, Places, Crowded, StageTests, FaultTests, Complete, Sound,
+--                   WellFormed
 --     plans         Demand, PlanLaws, Exist, Summit
 --     P1 to P11     JobTests, Cases, CaseRemarks, Outcomes
 pub mod Ints
 pub mod Walks
 pub mod Lists
+pub mod LaneList
 pub mod Paths
 pub mod Rules
 pub mod Test
@@ -17,19 +20,23 @@ pub mod Pigeon
 pub mod Ranges
 pub mod Labels
 pub mod Ticks
-pub mod Refusals
+pub mod Numbers
+pub mod Stages
+pub mod Compose
+pub mod Places
+pub mod Crowded
 pub mod Left
 pub mod Sound
 pub mod Demand
 pub mod PlanLaws
 pub mod Lowest
 pub mod TickTests
+pub mod StageTests
 pub mod FaultTests
 pub mod FloorTests
 pub mod Decide
 pub mod House
 pub mod Exist
-pub mod FirstFault
 pub mod Complete
 pub mod WellFormed
 pub mod Summit

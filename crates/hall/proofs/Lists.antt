@@ -1,4 +1,5 @@
--- A walk as a list of nodes: what is said of paths follows for walks. By induction over the walk, a node in front at each lane. Assumes nothing.
+-- A walk as a list of nodes: what is said of paths follows for walks. By induction over the walk, a node in
+-- front at each lane. Assumes nothing.
 use mathlib.Core.Path.{_≡_, refl}
 use mathlib.Core.List.{List, [], _∷_}
 use Prim.Native.Nat.{ℕ, zero, suc, _+_, _≤_, _<_}

@@ -1,5 +1,6 @@
--- What can be decided of each number can be sought: of the numbers below n either a lowest one has the property or none has. So a statement that some number
--- below n has it, or that all have it, can be decided. By induction over n: the lowest below n stays, or n itself is it. Assumes nothing.
+-- What can be decided of each number can be sought: of the numbers below n either a lowest one has the
+-- property or none has. So a statement that some number below n has it, or that all have it, can be decided.
+-- By induction over n: the lowest below n stays, or n itself is it. Assumes nothing.
 --     Lowest P n      the lowest number below n with the property P, or that there is none
 --     Below P n       a number below n with the property P
 use mathlib.Core.Path.{_≡_, sym, subst}
@@ -75,10 +76,3 @@ module _ {P : ℕ → Type 0} (decide : (k : ℕ) → Dec (P k)) where
       cases : Lowest P n → Dec (Below P n)
       cases (found k l p first) = yes (record { number = k; below = l; has = p })
       cases (nowhere none) = no (λ b. none (b .number) (b .below) (b .has))
-
-  pub dec-none : (n : ℕ) → Dec ((k : ℕ) → k < n → ¬ P k)
-  dec-none n = cases (lowest-below decide n)
-    where
-      cases : Lowest P n → Dec ((k : ℕ) → k < n → ¬ P k)
-      cases (found k l p first) = no (λ f. f k l p)
-      cases (nowhere none) = yes none

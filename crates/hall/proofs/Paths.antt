@@ -1,5 +1,5 @@
--- Where a node of a shortest path lies: m lanes from its start and d − m from its goal, since a shorter way to it or from it would make a shorter
--- walk of the whole. Assumes nothing.
+-- Where a node of a shortest path lies: m lanes from its start and d − m from its goal, since a shorter way
+-- to it or from it would make a shorter walk of the whole. Assumes nothing.
 use mathlib.Core.Path.{_≡_, refl}
 use mathlib.Core.List.{List}
 use Prim.Native.Nat.{ℕ, zero, suc, _+_, _-_, _≤_, _<_}

@@ -1,5 +1,6 @@
--- More numbers than places: two in one place. So a distance is below the number of nodes, since a shortest path stands on no node twice, and an order of
--- k different carrier numbers below k lists them all. Assumes nothing.
+-- More numbers than places: two in one place. So a distance is below the number of nodes, since a shortest
+-- path stands on no node twice, and an order of k different carrier numbers below k lists them all. Assumes
+-- nothing.
 use mathlib.Core.Path.{_≡_, refl, sym, _∙_, ap, subst}
 use mathlib.Core.Logic.{_≢_}
 use mathlib.Core.List.{List}

@@ -1,7 +1,9 @@
--- A job whose order lists each carrier once has at most one plan, and its numbers are within the limits of page 01. The tables are distances, which are unique; the
--- ticks ask the tables only for distances between the order's carriers, so start ticks by one of two equal tables are start ticks by the other, and these
--- are unique; the cost is the sum of equal goal ticks. The limits are those of Ticks.antt, since a carrier's own distance is at most 1,023. A job without the
--- faults 2 to 7 is such a job; nothing here uses that starts or goals differ. Assumes nothing.
+-- A job whose order lists each carrier once has at most one plan, and its numbers are within the limits of
+-- rule 5.6. The tables are distances, which are unique; the ticks ask the tables only for distances between
+-- the order's carriers, so start ticks by one of two equal tables are start ticks by the other, and these are
+-- unique; the cost is the sum of equal goal ticks. The limits are those of Ticks.antt, since a carrier's own
+-- distance is at most 1,023. A job without the faults 2 to 7 is such a job; nothing here uses that starts or
+-- goals differ. Assumes nothing.
 --     SameTables    two tables agree for the carrier numbers below k
 --     SamePlan      the tables, the start ticks and the cost of two plans agree
 use mathlib.Core.Path.{_≡_, sym, _∙_, subst}
@@ -12,7 +14,8 @@ use lib.ListN.{length, getD}
 use lib.IntN.{pos, _-ℤ_}
 use Rattle.hall.specs.Floor.{Floor}
 use Rattle.hall.specs.Job.{Numbers, carriers, at-place}
-use Rattle.hall.specs.Refusals.{Checks, None}
+use Rattle.hall.specs.Stages.{None}
+use Rattle.hall.specs.Questions.{checksQuestion}
 use Rattle.hall.specs.Rule.{Pair, Permitted}
 use Rattle.hall.specs.Ticks.{Tables, own, pairOf, PermittedBy, PermittedAt, StartTicks, goalTick}
 use Rattle.hall.specs.Plan.{TablesOf, Plan}
@@ -107,9 +110,9 @@ module _ (j : Numbers) (listed : Listing j) where
 
 -- ---- of a job without the faults 2 to 7
 
-pub plan-unique : (j : Numbers) (sound : None (Checks j)) (t u : Tables) (tick tick′ : ℕ → ℕ) (cost cost′ : ℕ) → Plan j t tick cost → Plan j u tick′ cost′
+pub plan-unique : (j : Numbers) (sound : None (checksQuestion j)) (t u : Tables) (tick tick′ : ℕ → ℕ) (cost cost′ : ℕ) → Plan j t tick cost → Plan j u tick′ cost′
     → SamePlan (carriers j) t tick cost u tick′ cost′
 plan-unique j sound = plan-unique-listed j (listing j sound)
 
-pub plan-within : (j : Numbers) (sound : None (Checks j)) (t : Tables) (tick : ℕ → ℕ) (cost : ℕ) → Plan j t tick cost → Within (carriers j) t tick cost
+pub plan-within : (j : Numbers) (sound : None (checksQuestion j)) (t : Tables) (tick : ℕ → ℕ) (cost : ℕ) → Plan j t tick cost → Within (carriers j) t tick cost
 plan-within j sound = plan-within-listed j (listing j sound)

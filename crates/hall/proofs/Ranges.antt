@@ -1,6 +1,8 @@
--- How large the signed values of the rule can be (page 01, "The safe-delay rule for a pair"): a lead is "from −1,023 to 1,023", the gap "from −2,046 to 2,046". If a walk
--- joins the two starts then walks join all four ends, through each other, so none of the six numbers is the mark, and each is at most 1,023; the values are
--- differences and sums of these. Then three sentences of the rule, each from one part of `Forbidden`. Assumes nothing.
+-- How large the signed values of the rule can be (rules 4.3 and 4.4): a lead is from −1,023 to 1,023, the gap
+-- from −2,046 to 2,046. If a walk joins the two starts then walks join all four
+-- ends, through each other, so none of the six numbers is the mark, and each is at most 1,023; the values are
+-- differences and sums of these. Then rules 4.5, 4.6 and 4.9, each from one part of `Forbidden`. Assumes
+-- nothing.
 --     Joined6    all six numbers of a pair are distances, at most 1,023
 use mathlib.Core.Path.{_≡_}
 use mathlib.Core.Logic.{_≢_}
@@ -9,7 +11,8 @@ use Prim.Native.Nat.{ℕ, _+_, _≤_, _<_}
 use native.Mathlib.Omega.{arith}
 use lib.IntN.{ℤ, pos, negℤ}
 use lib.Signed.{_≤ℤ_}
-use Rattle.hall.specs.Floor.{Floor, Symmetric, Walk, Dist, floorOf}
+use Rattle.hall.specs.Limits.{nodeLimit}
+use Rattle.hall.specs.Floor.{Floor, Symmetric, Walk, Dist, Network, floor}
 use Rattle.hall.specs.Rule.{Pair, lead-i, lead-j, gap, Forbidden, Permitted}
 use Rattle.hall.specs.Plan.{DistancesOf}
 use Rattle.hall.proofs.Ints.{up, down, up-pos, down-pos, up-neg, down-neg, le-law}
@@ -47,10 +50,6 @@ module _ {F : Floor} (both-ways : Symmetric F) (n : ℕ) (finite : (v : ℕ) →
       j : Walk F sj gj (p .jj)
       j = six .own-j .walk
 
--- and so of two moves on a network
-pub network-joined : (n : ℕ) (lanes : List ℕ) → n ≤ 1024 → {si gi sj gj : ℕ} {p : Pair} → DistancesOf (floorOf n lanes) si gi sj gj p → p .ss ≢ 65535 → Joined6 p
-network-joined n lanes limit = all-joined (lanes-symmetric n lanes) n (λ v h. h) limit
-
 -- ---- the ranges
 
 -- z lies within −b .. b where its ups and downs do
@@ -73,14 +72,14 @@ module _ (p : Pair) (small : Joined6 p) where
 -- ---- sentences of the rule
 
 module _ (p : Pair) (D : ℤ) where
-  -- "If no walk joins the two starts, every D is permitted."
+  -- rule 4.5
   pub unjoined-permitted : p .ss ≡ 65535 → Permitted p D
   unjoined-permitted e f = f .joined e
 
-  -- "If the gap is above 0, every D is permitted."
+  -- rule 4.6
   pub gap-permitted : ¬ (gap p ≤ℤ pos 0) → Permitted p D
   gap-permitted h f = h (f .gap-not-above)
 
-  -- "If the lower end exceeds the upper, nothing is forbidden."
+  -- rule 4.9
   pub empty-stretch-permitted : ¬ (negℤ (lead-j p) ≤ℤ lead-i p) → Permitted p D
   empty-stretch-permitted h f = h (le-law (negℤ (lead-j p)) (lead-i p) .1 (omega (arith, le-law (negℤ (lead-j p)) D .0 (f .low), le-law D (lead-i p) .0 (f .high))))

@@ -1,4 +1,5 @@
--- Pair safety (source document 000, Theorem 5, "⇐"): at a permitted difference no two shortest paths of the two carriers meet or cross. Assumes nothing.
+-- Pair safety (source document 000, Theorem 5, "⇐"): at a permitted difference no two shortest paths of the
+-- two carriers meet or cross. Assumes nothing.
 use mathlib.Core.Path.{_≡_, refl, sym, _∙_, ap, subst}
 use mathlib.Core.Logic.{_↔_, _⊎_, inl, inr, _≢_}
 use mathlib.Core.List.{List}
@@ -51,7 +52,8 @@ module _ {F : Floor} (both-ways : Symmetric F) {si gi sj gj : ℕ} {p : Pair} (s
         let f = shared a b ha hb e in
         record { joined = f .1; gap-not-above = omega arith; low = omega arith; high = omega arith; not-excepted = λ x. omega arith }
 
-    -- nodes exchanged: at its a-th node the first is where the second is at its (b + 1)-th, and the other way round
+    -- nodes exchanged: at its a-th node the first is where the second is at its (b + 1)-th, and the other way
+    -- round
     pub cross-at : (a b : ℕ) → ti + a ≡ tj + b → a + 1 ≤ p .ii → b + 1 ≤ p .jj → getD path a 0 ≡ getD path′ (b + 1) 0 → getD path (a + 1) 0 ≡ getD path′ b 0 → Forbidden⁺ p ti tj
     cross-at a b time ha hb e e′ =
         let f = shared a (b + 1) (omega arith) hb e in

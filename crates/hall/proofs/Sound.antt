@@ -1,39 +1,112 @@
--- What the laws of plans use of a job: at most 64 carriers, and an order that lists each carrier number once. A job without the faults 2 to 7 is like that (`listing`):
--- each fact is the denial of a count's check or of the order's. That starts differ, that goals differ, and that a start is unlike its goal (5 and 6) are used
--- nowhere here, so the laws hold of jobs without these too. That every carrier has a place is the counting law `all-listed`. Assumes nothing.
---     Listing j    "the order lists carrier numbers by place", each once, and there are at most 64
+-- What a job without the faults 2 to 7 is known to be: each fact is the denial of one check, read off the
+-- list of stages. The laws of plans use of it that there are at most 64 carriers and that the order lists
+-- each carrier number once (`Listing`); that starts differ, that goals differ and that a start is unlike its
+-- goal (5 and 6) they use nowhere, so they hold of jobs without these too. That every carrier has a place is
+-- the counting law `all-listed`. Assumes nothing.
+--     Denied j     none of the checks 2 to 7 holds of the job, check by check
+--     Listing j    the order lists the carrier numbers by place, each once, and there are at most 64
 use mathlib.Core.Path.{_≡_, sym}
-use mathlib.Core.Logic.{inr}
-use Prim.Native.Nat.{ℕ, suc, _≤_, _<_}
+use mathlib.Core.Logic.{_⊎_, inl, inr, _≢_}
+use mathlib.Core.List.{List, [], _∷_, _++_}
+use Prim.Native.Nat.{ℕ, suc, _/_, _%_, _≤_, _<_}
 use native.Mathlib.Decide.{ℕ-discrete, decLt}
 use native.Mathlib.Omega.{arith}
 use lib.ListN.{length}
-use Rattle.hall.specs.declared.Fault.the-variants.{Malformed, BadCount, BadLane, OffFloor, SameEnds, SharedEnd, BadOrder, Unreachable, ShortTable, NoCarrier, NotShortest}
-use Rattle.hall.specs.Job.{Numbers, carriers, at-place}
-use Rattle.hall.specs.Refusals.{nodes-count, carriers-count, order-count, no-carrier, stands-earlier, Checks, None}
-use Rattle.hall.specs.Plan.{JobFaults}
+use Rattle.hall.specs.Limits.{nodeLimit, laneLimit, carrierLimit}
+use Rattle.hall.specs.Floor.{NoWalk, Network, laneCount, floor}
+use Rattle.hall.specs.Job.{Numbers, carriers, start, goal, at-place, EndsOn}
+use Rattle.hall.specs.Stages.{FirstOf, here, later, FirstAt, FirstStage, First, None}
+use Rattle.hall.specs.Refusals.{LaneFault, OffFloor-at, SharedEnd-at, BadOrder-at, no-carrier, stands-earlier}
+use Rattle.hall.specs.Questions.{laneChecks, moveChecks, orderChecks, walkChecks, eachWalk}
+use Rattle.hall.specs.Questions.{networkQuestion, checksQuestion, jobQuestion}
+use Rattle.hall.proofs.Stages.{none-excludes}
+use Rattle.hall.proofs.Compose.{none-split, first-split}
+use Rattle.hall.proofs.Places.{none-asked, none-each}
 use Rattle.hall.proofs.Pigeon.{Listed, all-listed}
 
 -- what is not above is below or equal
 pub not-above : (m n : ℕ) → ¬ (m < n) → n ≤ m
 not-above m n h = omega arith
 
--- the checks 2 to 7 are among the faults of planning
-pub checks-of-none : (j : Numbers) → None (JobFaults j) → None (Checks j)
-checks-of-none j none Malformed p h = h
-checks-of-none j none BadCount p h = none BadCount p h
-checks-of-none j none BadLane p h = none BadLane p h
-checks-of-none j none OffFloor p h = none OffFloor p h
-checks-of-none j none SameEnds p h = none SameEnds p h
-checks-of-none j none SharedEnd p h = none SharedEnd p h
-checks-of-none j none BadOrder p h = none BadOrder p h
-checks-of-none j none Unreachable p h = absurd h
-checks-of-none j none ShortTable p h = absurd h
-checks-of-none j none NoCarrier p h = absurd h
-checks-of-none j none NotShortest p h = absurd h
+-- ---- a network without the faults 2 and 3
+
+pub record DeniedNetwork (N : Network) : Type 0 where
+  pub nodes : ¬ ((N .nodes < 1) ⊎ (nodeLimit < N .nodes))
+  pub lanes : ¬ ((laneLimit < length (N .lanes) / 2) ⊎ (length (N .lanes) % 2 ≡ 1))
+  pub lane : (k : ℕ) → k < laneCount (N .lanes) → ¬ LaneFault N k
+
+pub network-denied : (N : Network) → None (networkQuestion N) → DeniedNetwork N
+network-denied N none =
+    let nodes = none-asked none in
+    let lanes = none-asked (nodes .1) in
+    let lane = none-each (laneChecks N) (lanes .1) in
+    record { nodes = nodes .0; lanes = lanes .0; lane = λ k l. lane .0 .clear k l .0 }
+
+-- ---- a job without the faults 2 to 7
+
+pub record Denied (j : Numbers) : Type 0 where
+  pub network : DeniedNetwork (j .network)
+  pub carriers-count : ¬ (carrierLimit < carriers j)
+  pub order-count : ¬ (length (j .order) ≢ carriers j)
+  pub off-floor : (i : ℕ) → i < carriers j → ¬ OffFloor-at (j .network) (start j i) (goal j i)
+  pub same-ends : (i : ℕ) → i < carriers j → ¬ (start j i ≡ goal j i)
+  pub shared-end : (i : ℕ) → i < carriers j → ¬ SharedEnd-at (j .moves) i
+  pub bad-order : (p : ℕ) → p < length (j .order) → ¬ BadOrder-at (carriers j) (j .order) p
+
+pub denied-checks : (j : Numbers) → None (checksQuestion j) → Denied j
+denied-checks j none =
+    let nodes = none-asked none in
+    let lanes = none-asked (nodes .1) in
+    let few = none-asked (lanes .1) in
+    let order = none-asked (few .1) in
+    let lane = none-each (laneChecks (j .network)) (order .1) in
+    let move = none-each (moveChecks (j .network) (j .moves)) (lane .1) in
+    let entry = none-each (orderChecks (carriers j) (j .order)) (move .1) in
+    record {
+      network = record { nodes = nodes .0; lanes = lanes .0; lane = λ k l. lane .0 .clear k l .0 };
+      carriers-count = few .0;
+      order-count = order .0;
+      off-floor = λ i l. move .0 .clear i l .0;
+      same-ends = λ i l. move .0 .clear i l .1 .0;
+      shared-end = λ i l. move .0 .clear i l .1 .1 .0;
+      bad-order = λ p l. entry .0 .clear p l .0;
+    }
+
+-- the checks 2 to 7 are asked before 8
+pub checks-of-none : (j : Numbers) → None (jobQuestion j) → None (checksQuestion j)
+checks-of-none j none = none-split (checksQuestion j) (eachWalk (j .network) (j .moves) ∷ []) none .0
+
+-- and 8 tells that there are walks
+pub walks-of-none : (j : Numbers) → None (jobQuestion j) →
+    (i : ℕ) → i < carriers j → ¬ NoWalk (floor (j .network)) (start j i) (goal j i)
+walks-of-none j none i l =
+    let walks = none-split (checksQuestion j) (eachWalk (j .network) (j .moves) ∷ []) none .1 in
+    none-each (walkChecks (j .network) (j .moves)) walks .0 .clear i l .0
+
+-- where nothing of 2 to 7 holds, a first fault is 8, of a carrier without a walk
+pub only-eight : (j : Numbers) → None (checksQuestion j) → {n p : ℕ} → First (jobQuestion j) n p →
+    (n ≡ 8) × ((p < carriers j) × NoWalk (floor (j .network)) (start j p) (goal j p))
+only-eight j sound {n} {p} h = cases (first-split (checksQuestion j) (eachWalk (j .network) (j .moves) ∷ []) h)
+  where
+    in-stage : FirstAt (eachWalk (j .network) (j .moves)) n p →
+        (n ≡ 8) × ((p < carriers j) × NoWalk (floor (j .network)) (start j p) (goal j p))
+    in-stage (here x) = x
+    in-stage (later k x) = absurd x
+
+    in-walks : FirstStage (eachWalk (j .network) (j .moves) ∷ []) n p →
+        (n ≡ 8) × ((p < carriers j) × NoWalk (floor (j .network)) (start j p) (goal j p))
+    in-walks (here x) = in-stage (x .holds)
+    in-walks (later k x) = absurd x
+
+    cases : FirstOf (First (checksQuestion j) n p) (None (checksQuestion j)) (First (eachWalk (j .network) (j .moves) ∷ []) n p) →
+        (n ≡ 8) × ((p < carriers j) × NoWalk (floor (j .network)) (start j p) (goal j p))
+    cases (here x) = absurd (none-excludes x sound)
+    cases (later k x) = in-walks (x .in-turn)
+
+-- ---- the order's list
 
 pub record Listing (j : Numbers) : Type 0 where
-  pub few : carriers j ≤ 64
+  pub few : carriers j ≤ carrierLimit
   pub size : length (j .order) ≡ carriers j
   -- an order entry is a carrier number
   pub below : (p : ℕ) → p < length (j .order) → at-place j p < carriers j
@@ -42,35 +115,45 @@ pub record Listing (j : Numbers) : Type 0 where
 
 -- every carrier has a place
 pub place-listed : (j : Numbers) → Listing j → (c : ℕ) → c < carriers j → Listed (at-place j) (length (j .order)) c
-place-listed j l c h = all-listed (length (j .order)) (at-place j) (λ p m. rw (l .size) (l .below p m)) (l .once) c (rw (l .size) h)
+place-listed j l c h =
+    all-listed (length (j .order)) (at-place j) (λ p m. rw (l .size) (l .below p m)) (l .once) c (rw (l .size) h)
 
--- ---- a job without the faults 2 to 7
+module _ (j : Numbers) (sound : None (checksQuestion j)) where
+  facts : Denied j
+  facts = denied-checks j sound
 
-module _ (j : Numbers) (sound : None (Checks j)) where
-  pub nodes-limit : j .nodes ≤ 1024
-  nodes-limit = not-above 1024 (j .nodes) (λ h. sound BadCount 0 (nodes-count (omega arith) (inr h)))
+  pub nodes-limit : j .network .nodes ≤ nodeLimit
+  nodes-limit = not-above nodeLimit (j .network .nodes) (λ h. facts .network .nodes (inr h))
 
-  pub carriers-limit : carriers j ≤ 64
-  carriers-limit = not-above 64 (carriers j) (λ h. sound BadCount 2 (carriers-count (omega arith) h))
+  pub carriers-limit : carriers j ≤ carrierLimit
+  carriers-limit = not-above carrierLimit (carriers j) (facts .carriers-count)
 
   pub order-length : length (j .order) ≡ carriers j
   order-length = cases (ℕ-discrete (length (j .order)) (carriers j))
     where
       cases : Dec (length (j .order) ≡ carriers j) → length (j .order) ≡ carriers j
       cases (yes e) = e
-      cases (no e) = absurd (sound BadCount 3 (order-count (omega arith) e))
+      cases (no e) = absurd (facts .order-count e)
+
+  -- every start and every goal is a node
+  pub ends-on : EndsOn (floor (j .network)) (j .moves)
+  ends-on = record {
+    starts = λ i l. not-above (j .network .nodes) (suc (start j i)) (λ x. facts .off-floor i l (inl (omega arith)));
+    goals = λ i l. not-above (j .network .nodes) (suc (goal j i)) (λ x. facts .off-floor i l (inr (omega arith)));
+  }
 
   -- an order entry is a carrier number
   pub entry-below : (p : ℕ) → p < length (j .order) → at-place j p < carriers j
-  entry-below p l = not-above (carriers j) (suc (at-place j p)) (λ h. sound BadOrder p (l, no-carrier (omega arith)))
+  entry-below p l =
+      not-above (carriers j) (suc (at-place j p)) (λ h. facts .bad-order p l (no-carrier (omega arith)))
 
   -- two places have different entries
   pub entry-once : (p q : ℕ) → p < length (j .order) → q < length (j .order) → at-place j p ≡ at-place j q → p ≡ q
   entry-once p q hp hq e = cases (decLt p q) (decLt q p)
     where
       cases : Dec (p < q) → Dec (q < p) → p ≡ q
-      cases (yes l) d = absurd (sound BadOrder q (hq, stands-earlier l e))
-      cases (no l) (yes k) = absurd (sound BadOrder p (hp, stands-earlier k (sym e)))
+      cases (yes l) d = absurd (facts .bad-order q hq (stands-earlier l e))
+      cases (no l) (yes k) = absurd (facts .bad-order p hp (stands-earlier k (sym e)))
       cases (no l) (no k) = omega arith
 
   pub listing : Listing j

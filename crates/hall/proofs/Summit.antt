@@ -1,26 +1,28 @@
--- What the definitions give of every job from numbers, whatever the numbers are, in one statement: exactly one fault of 2 to 8 is the first, or there is none and
--- exactly one plan, within the limits, which keeps all carriers apart whatever shortest paths they take. So the definitions promise neither nothing nor two things; that
--- the planner answers so is the promise of its functions. Complete.antt decides between the two, Exist.antt makes the plan, PlanLaws.antt says that any other agrees
--- with it for every carrier, and Demand.antt that it is safe. Assumes nothing.
---     RefusedOnce     the job has a first fault at a place, and no other
---     PlannedOnce     the job has no fault; it has a plan, and no other; the plan is within the limits; each carrier has a shortest path, and for every choice
---                     of shortest paths demand 3 holds
+-- What the definitions give of every job from numbers, whatever the numbers are, in one statement: exactly
+-- one fault of 2 to 8 is the first, or there is none and exactly one plan, within the limits, which keeps all
+-- carriers apart whatever shortest paths they take. So the definitions promise neither nothing nor two
+-- things; that the planner answers so is the promise of its functions. Complete.antt decides between the two,
+-- Exist.antt makes the plan, PlanLaws.antt says that any other agrees with it for every carrier, and
+-- Demand.antt that it is safe. Assumes nothing.
+--     RefusedOnce     the job has a first fault, with its number and place, and no other
+--     PlannedOnce     the job has no fault; it has a plan, and no other; the plan is within the limits; each
+--                     carrier has a shortest path, and for every choice of shortest paths demand 3 holds
 use mathlib.Core.Path.{_≡_}
 use mathlib.Core.Logic.{_⊎_, inl, inr}
 use mathlib.Core.List.{List}
 use Prim.Native.Nat.{ℕ, _<_}
-use Rattle.hall.specs.declared.Fault.{Fault}
-use Rattle.hall.specs.declared.Checked.{Checked}
-use Rattle.hall.specs.declared.Checked.the-variants.{Sound, Refused}
-use Rattle.hall.specs.Job.{Numbers, floor, carriers, start, goal}
-use Rattle.hall.specs.Refusals.{First, None, Judged, Checks}
+use Rattle.hall.specs.Floor.{floor}
+use Rattle.hall.specs.Job.{Numbers, carriers, start, goal}
+use Rattle.hall.specs.Stages.{First, None}
+use Rattle.hall.specs.Said.{Said, accepted, refused, Fits}
+use Rattle.hall.specs.Questions.{checksQuestion, jobQuestion}
 use Rattle.hall.specs.Ticks.{Tables}
 use Rattle.hall.specs.Path.{ShortestPath}
-use Rattle.hall.specs.Plan.{Plan, JobFaults}
+use Rattle.hall.specs.Plan.{Plan}
 use Rattle.hall.specs.Safety.{Demand3, Within}
 use Rattle.hall.proofs.Walks.{true-distance}
 use Rattle.hall.proofs.Paths.{shortest-exists}
-use Rattle.hall.proofs.Refusals.{first-unique}
+use Rattle.hall.proofs.Stages.{first-unique}
 use Rattle.hall.proofs.Sound.{checks-of-none}
 use Rattle.hall.proofs.Demand.{plan-safe}
 use Rattle.hall.proofs.PlanLaws.{SamePlan, plan-unique, plan-within}
@@ -28,24 +30,24 @@ use Rattle.hall.proofs.Exist.{Planned, plan-exists}
 use Rattle.hall.proofs.Complete.{job-decided}
 
 pub record RefusedOnce (j : Numbers) : Type 0 where
-  pub fault : Fault
+  pub number : ℕ
   pub place : ℕ
-  pub first : First (JobFaults j) fault place
-  pub only : (g : Fault) (q : ℕ) → First (JobFaults j) g q → (fault ≡ g) × (place ≡ q)
+  pub first : First (jobQuestion j) number place
+  pub only : (n p : ℕ) → First (jobQuestion j) n p → (number ≡ n) × (place ≡ p)
 
 pub record PlannedOnce (j : Numbers) : Type 0 where
-  pub no-fault : None (JobFaults j)
+  pub no-fault : None (jobQuestion j)
   pub planned : Planned j
   pub only : (u : Tables) (tick : ℕ → ℕ) (cost : ℕ) → Plan j u tick cost → SamePlan (carriers j) (planned .tables) (planned .tick) (planned .cost) u tick cost
   pub within : Within (carriers j) (planned .tables) (planned .tick) (planned .cost)
-  pub paths : (i : ℕ) → i < carriers j → (l : List ℕ) × ShortestPath (floor j) (start j i) (goal j i) l
-  pub safe : (path : ℕ → List ℕ) → ((i : ℕ) → i < carriers j → ShortestPath (floor j) (start j i) (goal j i) (path i))
-      → Demand3 (floor j) (carriers j) (start j) (goal j) (planned .tables) (j .order) (planned .tick) path
+  pub paths : (i : ℕ) → i < carriers j → (l : List ℕ) × ShortestPath (floor (j .network)) (start j i) (goal j i) l
+  pub safe : (path : ℕ → List ℕ) → ((i : ℕ) → i < carriers j → ShortestPath (floor (j .network)) (start j i) (goal j i) (path i))
+      → Demand3 (floor (j .network)) (carriers j) (start j) (goal j) (planned .tables) (j .order) (planned .tick) path
 
-pub refused-once : (j : Numbers) {f : Fault} {p : ℕ} → First (JobFaults j) f p → RefusedOnce j
-refused-once j {f} {p} h = record { fault = f; place = p; first = h; only = λ g q k. first-unique h k }
+pub refused-once : (j : Numbers) {n p : ℕ} → First (jobQuestion j) n p → RefusedOnce j
+refused-once j {n} {p} h = record { number = n; place = p; first = h; only = λ m q k. first-unique h k }
 
-pub planned-once : (j : Numbers) → None (JobFaults j) → PlannedOnce j
+pub planned-once : (j : Numbers) → None (jobQuestion j) → PlannedOnce j
 planned-once j none = record {
   no-fault = none;
   planned = one;
@@ -58,12 +60,12 @@ planned-once j none = record {
     one : Planned j
     one = plan-exists j none
 
-    sound : None (Checks j)
+    sound : None (checksQuestion j)
     sound = checks-of-none j none
 
 pub every-job : (j : Numbers) → PlannedOnce j ⊎ RefusedOnce j
 every-job j = cases (job-decided j .answer) (job-decided j .fits)
   where
-    cases : (c : Checked) → Judged (JobFaults j) c → PlannedOnce j ⊎ RefusedOnce j
-    cases Sound none = inl (planned-once j none)
-    cases (Refused r) first = inr (refused-once j first)
+    cases : (s : Said Unit) → Fits (jobQuestion j) s → PlannedOnce j ⊎ RefusedOnce j
+    cases (accepted u) none = inl (planned-once j none)
+    cases (refused n p) first = inr (refused-once j first)

@@ -1,5 +1,5 @@
--- Tests that compute, each with what it says when it passes and when it fails: `Dec`, with the Boolean apart from the proofs, so that a closed test computes
--- without them. Assumes nothing.
+-- Tests that compute, each with what it says when it passes and when it fails: `Dec`, with the Boolean apart
+-- from the proofs, so that a closed test computes without them. Assumes nothing.
 use mathlib.Core.Path.{_≡_, sym, subst}
 use mathlib.Core.Logic.{_⊎_, inl, inr}
 use mathlib.Core.Bool.{Bool, true, false, not}
@@ -73,9 +73,28 @@ a or? b = record { pass = either (a .pass) (b .pass); sound = either-is (a .pass
 abbrev pub not? : {A : Type 0} → Test A → Test (¬ A)
 not? a = record { pass = not (a .pass); sound = a .fails; fails = not-is (a .pass) (a .sound) }
 
--- what never holds
+-- what never holds, and what always does
 abbrev pub never? : Test ⊥
 never? = record { pass = false; sound = absurd; fails = λ t h. h }
+
+abbrev pub always? : Test Unit
+always? = record { pass = true; sound = λ t. tt; fails = λ t h. t }
+
+-- what is decided, as a test; it need not compute
+abbrev passed : {A : Type 0} → Dec A → Bool
+passed (yes a) = true
+passed (no k) = false
+
+decided-sound : {A : Type 0} (d : Dec A) → T (passed d) → A
+decided-sound (yes a) t = a
+decided-sound (no k) t = absurd t
+
+decided-fails : {A : Type 0} (d : Dec A) → T (not (passed d)) → A → ⊥
+decided-fails (yes a) t h = t
+decided-fails (no k) t h = k h
+
+pub decided? : {A : Type 0} → Dec A → Test A
+decided? d = record { pass = passed d; sound = decided-sound d; fails = decided-fails d }
 
 pub implies-is : {A B : Type 0} (a b : Bool) → (T (not a) → A → ⊥) → (T b → B) → T (either (not a) b) → A → B
 implies-is true b f g t h = g t

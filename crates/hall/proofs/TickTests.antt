@@ -1,5 +1,6 @@
--- Computed tests of the pair rule and of start ticks, for any tables and any order. The rule is tested in its form with additions only, which is the
--- same rule (`forbidden-iff`); a tick is the smallest if it is permitted and each tick below it is not. Assumes nothing.
+-- Computed tests of the pair rule and of start ticks, for any tables and any order. The rule is tested in its
+-- form with additions only, which is the same rule (`forbidden-iff`); a tick is the smallest if it is
+-- permitted and each tick below it is not. Assumes nothing.
 use mathlib.Core.List.{List}
 use Prim.Native.Nat.{ℕ, _+_, _%_, _≤_, _<_}
 use native.Mathlib.Decide.{decLe}

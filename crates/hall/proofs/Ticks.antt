@@ -1,6 +1,7 @@
--- What follows of start ticks by an order, whatever the tables: the first starts at 0, the bound, the limits 64,512 and 65,535, and uniqueness. The bound:
--- one tick after the latest goal tick so far is past every stretch, so the smallest permitted tick is not later. Uniqueness: by induction over the
--- places, since the ticks before a place decide which ticks are permitted at it. Assumes nothing.
+-- What follows of start ticks by an order, whatever the tables: the first starts at 0, the bound, the limits
+-- 64,512 and 65,535, and uniqueness. The bound: one tick after the latest goal tick so far is past every
+-- stretch, so the smallest permitted tick is not later. Uniqueness: by induction over the places, since the
+-- ticks before a place decide which ticks are permitted at it. Assumes nothing.
 use mathlib.Core.Path.{_≡_, sym, subst}
 use mathlib.Core.List.{List}
 use Prim.Native.Nat.{ℕ, zero, suc, _+_, _*_, _≤_, _<_, max, zero-le}
@@ -37,7 +38,7 @@ module _ (t : Tables) (order : List ℕ) where
     latest-bounds (suc q) p h = more q p (latest-bounds q p) h (decLt p q)
 
     module _ (s : StartTicks t order tick) where
-      -- "The carrier at place 0 starts at tick 0."
+      -- rule 5.1
       pub first-at-zero : 0 < length order → tick (at 0) ≡ 0
       unfolding PermittedBy
       first-at-zero h = le-antisymm (s .smallest 0 h .least 0 zero-le (λ p l. absurd (not-suc-le-zero l))) zero-le

@@ -1,12 +1,12 @@
--- Laws of walks and distances, over any floor: walks join and turn round, distances are unique and symmetric and obey the triangle inequality.
--- Each is an induction over one walk. Assumes nothing.
+-- Laws of walks and distances, over any floor: walks join and turn round, distances are unique and symmetric
+-- and obey the triangle inequality. Each is an induction over one walk. Assumes nothing.
 use mathlib.Core.Path.{_≡_, refl, sym, _∙_}
 use mathlib.Core.Logic.{_⊎_, inl, inr, _≢_}
 use mathlib.Core.List.{List}
 use Prim.Native.Nat.{ℕ, zero, suc, _+_, _≤_, _<_, zero-le}
 use native.Mathlib.Nat.{zero-add, suc-add, le-antisymm}
 use native.Mathlib.Omega.{arith}
-use Rattle.hall.specs.Floor.{Floor, Symmetric, Walk, here, step, Dist, NoWalk, DistanceIs, no-walk, distance, Lane, floorOf}
+use Rattle.hall.specs.Floor.{Floor, Symmetric, Walk, here, step, Dist, NoWalk, DistanceIs, no-walk, distance, Lane, Network, floor}
 
 module _ {F : Floor} where
   pub join : {a b c m n : ℕ} → Walk F a b m → Walk F b c n → Walk F a c (m + n)
@@ -62,8 +62,8 @@ module _ {F : Floor} where
   distance-small (no-walk e none) h = absurd (h e)
   distance-small (distance small d) h = small
 
-pub lanes-symmetric : (n : ℕ) (lanes : List ℕ) → Symmetric (floorOf n lanes)
-lanes-symmetric n lanes a b l = record { k = l .k; inside = l .inside; ends = turned (l .ends) }
+pub lanes-symmetric : (N : Network) → Symmetric (floor N)
+lanes-symmetric N a b l = record { k = l .k; inside = l .inside; ends = turned (l .ends) }
   where
     turned : {A B : Type 0} → A ⊎ B → B ⊎ A
     turned (inl x) = inr x

@@ -1,45 +1,56 @@
--- The cases P1 to P11 of page 01, "Cases by carrier number", as one table. A line is the whole outcome of its job: `outcome-unique` (proofs/Outcomes.antt) says that
--- a job has no second one.
---     Outcome     ticks by carrier number with the cost, or the refusal with its place
+-- The cases P1 to P11 (rules 11.1 to 11.11) as one table. A line is the whole outcome of its job:
+-- `outcome-unique` (proofs/Outcomes.antt) says that a job has no second one.
+--     Schedule    start ticks by carrier number, and the cost
+--     Outcome     what is said of a job: a schedule, or a refusal with its number and place
+--     planned     a schedule as an outcome
 --     Case        a job with its outcome
 --     Accepted    the job has no fault, there is one tick a carrier, and the ticks and the cost are its plan
---     Gives       the outcome is what the definitions give of the job: accepted, or refused for its first fault
+--     Gives       the outcome is what the definitions give of the job: accepted, or refused for its first
+--                 fault
 --     Holds       the same of a case
+--     line2, ..   the lanes of a line of so many nodes; six-lanes four nodes with all six lanes between them
 --     case        a case from its numbers: nodes, lanes, moves, order, outcome
---     cases       P1 to P11, line by line. Where the page names no network ("No carriers") it is line 5; where it names no cost it is the sum of the goal ticks
+--     cases       P1 to P11, line by line. Where the rules name no network (no carriers) it is line 5; where
+--                 they name no cost it is the sum of the goal ticks
 use mathlib.Core.Path.{_≡_}
 use mathlib.Core.List.{List, [], _∷_}
 use Prim.Native.Nat.{ℕ}
 use lib.ListN.{length, getD}
-use Rattle.hall.specs.declared.Fault.{Fault}
-use Rattle.hall.specs.declared.Fault.the-variants.{Unreachable}
-use Rattle.hall.specs.Job.{Numbers, carriers}
-use Rattle.hall.specs.Refusals.{First, None}
+use Rattle.hall.specs.Floor.{networkOf}
+use Rattle.hall.specs.Job.{Numbers, jobOf, carriers}
+use Rattle.hall.specs.Stages.{First, None}
+use Rattle.hall.specs.Said.{Said, accepted, refused}
+use Rattle.hall.specs.Questions.{jobQuestion}
 use Rattle.hall.specs.Ticks.{Tables}
-use Rattle.hall.specs.Plan.{Plan, JobFaults}
+use Rattle.hall.specs.Plan.{Plan}
 
-pub data Outcome : Type 0 where
-  planned : (ticks : List ℕ) (cost : ℕ) → Outcome
-  refused : (fault : Fault) (place : ℕ) → Outcome
+pub record Schedule : Type 0 where
+  pub ticks : List ℕ
+  pub cost : ℕ
+
+abbrev pub Outcome : Type 0
+Outcome = Said Schedule
+
+abbrev pub planned : List ℕ → ℕ → Outcome
+planned ticks cost = accepted (record { ticks = ticks; cost = cost })
 
 pub record Case : Type 0 where
   pub job : Numbers
   pub outcome : Outcome
 
-pub record Accepted (j : Numbers) (ticks : List ℕ) (cost : ℕ) : Type 0 where
-  pub no-fault : None (JobFaults j)
-  pub one-each : length ticks ≡ carriers j
+pub record Accepted (j : Numbers) (s : Schedule) : Type 0 where
+  pub no-fault : None (jobQuestion j)
+  pub one-each : length (s .ticks) ≡ carriers j
   pub tables : Tables
-  pub plan : Plan j tables (λ i. getD ticks i 0) cost
+  pub plan : Plan j tables (λ i. getD (s .ticks) i 0) (s .cost)
 
 abbrev pub Gives : Numbers → Outcome → Type 0
-Gives j (planned ticks cost) = Accepted j ticks cost
-Gives j (refused fault place) = First (JobFaults j) fault place
+Gives j (accepted s) = Accepted j s
+Gives j (refused n p) = First (jobQuestion j) n p
 
 abbrev pub Holds : Case → Type 0
 Holds c = Gives (c .job) (c .outcome)
 
--- "Line n" is a line of n nodes.
 abbrev pub line2 : List ℕ
 line2 = 0 ∷ 1 ∷ []
 
@@ -49,14 +60,12 @@ line4 = 0 ∷ 1 ∷ 1 ∷ 2 ∷ 2 ∷ 3 ∷ []
 abbrev pub line5 : List ℕ
 line5 = 0 ∷ 1 ∷ 1 ∷ 2 ∷ 2 ∷ 3 ∷ 3 ∷ 4 ∷ []
 
--- "Four nodes, all six lanes"
 abbrev pub six-lanes : List ℕ
 six-lanes = 0 ∷ 1 ∷ 0 ∷ 2 ∷ 0 ∷ 3 ∷ 1 ∷ 2 ∷ 1 ∷ 3 ∷ 2 ∷ 3 ∷ []
 
 abbrev pub case : ℕ → List ℕ → List ℕ → List ℕ → Outcome → Case
-case n lanes moves order o = record { job = record { nodes = n; lanes = lanes; moves = moves; order = order }; outcome = o }
+case n lanes moves order o = record { job = jobOf (networkOf n lanes) moves order; outcome = o }
 
--- A cost is the sum of the goal ticks; the page prints those of P1, P8 and P9.
 unfoldable pub cases : List Case
 cases =
     -- P1
@@ -80,5 +89,5 @@ cases =
     -- P10
     ∷ case 4 (0 ∷ 1 ∷ 2 ∷ 3 ∷ []) (0 ∷ 1 ∷ 2 ∷ 3 ∷ []) (0 ∷ 1 ∷ []) (planned (0 ∷ 0 ∷ []) 2)
     -- P11
-    ∷ case 3 line2 (0 ∷ 2 ∷ []) (0 ∷ []) (refused Unreachable 0)
+    ∷ case 3 line2 (0 ∷ 2 ∷ []) (0 ∷ []) (refused 8 0)
     ∷ []

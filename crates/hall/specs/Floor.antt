@@ -1,20 +1,28 @@
--- Floors, walks and distances (page 01, "Network, moves and time"). Nothing here names a search.
---     Floor               which numbers are nodes, and which two numbers a lane joins. `Joined` is over all numbers, nodes or not: it is a walk that stands on
---                         nodes. Every definition of walks and paths speaks of a floor, so that a floor with closed nodes needs no others
---     Symmetric F         a lane "runs both ways": what joins a to b joins b to a. That it joins two different nodes is a check's (`LaneFault`, Refusals.antt)
---     Walk F a b n        a walk of n lanes from a to b. Each of its n + 1 numbers is a node, that of a walk of no lanes too
---     Dist F a b d        "The distance of two nodes is the least number of lanes in a walk between them"
+-- Networks, floors, walks and distances (rules 2.1 to 2.6). Nothing here names a search.
+--     Floor               which numbers are nodes, and which two numbers a lane joins. `Joined` is over all
+--                         numbers, nodes or not: it is a walk that stands on nodes. Every definition of walks
+--                         and paths speaks of a floor, so that a floor with closed nodes needs no others
+--     Symmetric F         lanes run both ways: what joins a to b joins b to a. That a lane joins two
+--                         different nodes is a check's (`LaneFault`, Refusals.antt)
+--     Walk F a b n        a walk of n lanes from a to b. Each of its n + 1 numbers is a node, that of a walk
+--                         of no lanes too
+--     Dist F a b d        the distance of a and b: some walk between them has d lanes, and none has fewer
 --     NoWalk F a b        no walk joins a and b
---     DistanceIs F a b r  "A distance is 0 to 1,023, or 65,535 for 'no walk'": the number r stands for the distance of a and b
+--     DistanceIs F a b r  the number r stands for the distance of a and b: 0 to 1,023, or 65,535 where there
+--                         is no walk
 --     laneCount           a lane list has two numbers a lane
---     lower, higher       the first and the second number of lane k: "Lanes stand as (lower, higher)"
+--     lower, higher       the first and the second number of lane k
 --     Lane lanes a b      a lane of the list joins a and b, whichever of them stands first
---     floorOf n lanes     "Nodes are numbered from 0": the numbers below n, and the lanes of the list
+--     Network             a node count and a lane list
+--     networkOf           the network of lent numbers; the one place where a network is put together
+--     nodesOnly           a network of which only the node count is looked at
+--     floor N             the floor of a network: nodes are numbered from 0, and its lanes join them
 use mathlib.Core.Path.{_≡_}
 use mathlib.Core.Logic.{_⊎_}
-use mathlib.Core.List.{List}
+use mathlib.Core.List.{List, []}
 use Prim.Native.Nat.{ℕ, zero, suc, _+_, _*_, _/_, _≤_, _<_}
 use lib.ListN.{length, getD}
+use Rattle.hall.specs.Limits.{distanceLimit, noWalkMark}
 
 pub record Floor : Type 1 where
   pub Node : ℕ → Type 0
@@ -35,10 +43,10 @@ abbrev pub NoWalk : Floor → ℕ → ℕ → Type 0
 NoWalk F a b = (n : ℕ) → ¬ Walk F a b n
 
 pub data DistanceIs (F : Floor) (a b r : ℕ) : Type 0 where
-  no-walk : r ≡ 65535 → NoWalk F a b → DistanceIs F a b r
-  distance : r ≤ 1023 → Dist F a b r → DistanceIs F a b r
+  no-walk : r ≡ noWalkMark → NoWalk F a b → DistanceIs F a b r
+  distance : r ≤ distanceLimit → Dist F a b r → DistanceIs F a b r
 
--- ---- the floor of a network
+-- ---- lane lists
 
 abbrev pub laneCount : List ℕ → ℕ
 laneCount lanes = length lanes / 2
@@ -54,5 +62,17 @@ pub record Lane (lanes : List ℕ) (a b : ℕ) : Type 0 where
   pub inside : k < laneCount lanes
   pub ends : ((lower lanes k ≡ a) × (higher lanes k ≡ b)) ⊎ ((lower lanes k ≡ b) × (higher lanes k ≡ a))
 
-abbrev pub floorOf : ℕ → List ℕ → Floor
-floorOf n lanes = record { Node = λ v. v < n; Joined = Lane lanes }
+-- ---- networks
+
+pub record Network : Type 0 where
+  pub nodes : ℕ
+  pub lanes : List ℕ
+
+abbrev pub networkOf : ℕ → List ℕ → Network
+networkOf nodes lanes = record { nodes = nodes; lanes = lanes }
+
+abbrev pub nodesOnly : ℕ → Network
+nodesOnly nodes = networkOf nodes []
+
+abbrev pub floor : Network → Floor
+floor N = record { Node = λ v. v < N .nodes; Joined = Lane (N .lanes) }

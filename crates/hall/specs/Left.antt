@@ -1,27 +1,23 @@
--- What is left in a lent table (page 01, "What is left").
---     zeroed     a table whose first n places are zero: "a refusal other than 9 zeroes the whole least length", "Places beyond a least length are never
---                touched"
---     left-by    a table of a least length n after a refusal: 9 "leaves all tables untouched", every other zeroes the least length, "unless said otherwise". Where
---                the page says otherwise, as of records and order after planning, the question's own promise does
+-- What is left in a lent table (rules 9.1 to 9.4).
+--     zeroed n t     the table t with its first n places zero, all of them where it is shorter; beyond it is
+--                    as it came
+--     whichever      the first table if a test is true, and otherwise the second
+--     left k n t     a table of least length n after the refusal with the number k: 9 leaves it as it came,
+--                    every other zeroes the least length. Where the rules say otherwise, as of records and
+--                    order after planning, the question's own promise does
 use mathlib.Core.List.{List, [], _∷_}
+use mathlib.Core.Bool.{Bool, true, false}
 use Prim.Native.Nat.{ℕ, zero, suc}
-use Rattle.hall.specs.declared.Fault.{Fault}
-use Rattle.hall.specs.declared.Fault.the-variants.{Malformed, BadCount, BadLane, OffFloor, SameEnds, SharedEnd, BadOrder, Unreachable, ShortTable, NoCarrier, NotShortest}
+use lib.Dec.{eqb}
 
 unfoldable pub zeroed : ℕ → List ℕ → List ℕ
-zeroed zero table = table
+zeroed zero t = t
 zeroed (suc n) [] = []
-zeroed (suc n) (x ∷ table) = 0 ∷ zeroed n table
+zeroed (suc n) (x ∷ t) = 0 ∷ zeroed n t
 
-abbrev pub left-by : Fault → ℕ → List ℕ → List ℕ
-left-by Malformed n table = zeroed n table
-left-by BadCount n table = zeroed n table
-left-by BadLane n table = zeroed n table
-left-by OffFloor n table = zeroed n table
-left-by SameEnds n table = zeroed n table
-left-by SharedEnd n table = zeroed n table
-left-by BadOrder n table = zeroed n table
-left-by Unreachable n table = zeroed n table
-left-by ShortTable n table = table
-left-by NoCarrier n table = zeroed n table
-left-by NotShortest n table = zeroed n table
+abbrev pub whichever : Bool → List ℕ → List ℕ → List ℕ
+whichever true t u = t
+whichever false t u = u
+
+abbrev pub left : (number least : ℕ) → List ℕ → List ℕ
+left k n t = whichever (eqb k 9) t (zeroed n t)

@@ -1,8 +1,13 @@
--- Page 01 as definitions. Each file opens with a dictionary in the page's words, and cites the sentence that it stands for.
+-- The rules (docs/RULES.md) as definitions. Each file opens with a dictionary: a symbol, its meaning in
+-- words, and the rules that it stands for.
 pub mod Limits
 pub mod Floor
 pub mod Job
+pub mod Numbers
+pub mod Stages
+pub mod Said
 pub mod Refusals
+pub mod Questions
 pub mod WellFormed
 pub mod Left
 pub mod Rule

@@ -1,10 +1,66 @@
--- The counts of a job (page 01, "What the planner covers").
---     largestJob    "The job's limits are 1,024 nodes, 4,096 lanes and 64 carriers". Refusal 2 is given past them: `CountFault` (Refusals.antt)
---     emptyJob      the counts of a job without carriers; a hall has a node at least, so it has one, and no lane
+-- The limits of a job and the least lengths that follow from them, each with its one name (rules 1.2, 2.6,
+-- 5.6 and 9.1). The constants of the type `Job` are the same numbers in code: the promise of `Job::largest`
+-- ties the first three to these, and the promise of each function that goes by one of the others ties that.
+--     nodeLimit       a hall has at most 1,024 nodes; a list with a place for each node has this least length
+--     laneLimit       at most 4,096 lanes
+--     carrierLimit    at most 64 carriers
+--     laneNumbers     two numbers for each lane that a hall can have
+--     moveNumbers     two numbers for each move that a job can have
+--     blockLength     a place for every two carriers
+--     tableLength     three such blocks: the distance table
+--     goalBlock       where the third of them begins
+--     distanceLimit   no distance is greater: a shortest path goes over no node twice
+--     startLimit      no start tick is greater: 63 carriers before it, each gone 1,024 ticks later at most
+--     goalLimit       no goal tick is greater: a start tick and a distance
+--     costLimit       no cost is greater: 64 goal ticks
+--     noWalkMark      the number that stands for "no walk" in the place of a distance
+--     largestJob      the counts at the limits. Refusal 2 is given past them (Questions.antt)
+--     emptyJob        the counts of a job without lanes and carriers; a hall has a node at least, so it has
+--                     one
+use Prim.Native.Nat.{ℕ}
 use Rattle.hall.specs.declared.Job.{Job}
 
+abbrev pub nodeLimit : ℕ
+nodeLimit = 1024
+
+abbrev pub laneLimit : ℕ
+laneLimit = 4096
+
+abbrev pub carrierLimit : ℕ
+carrierLimit = 64
+
+abbrev pub laneNumbers : ℕ
+laneNumbers = 8192
+
+abbrev pub moveNumbers : ℕ
+moveNumbers = 128
+
+abbrev pub blockLength : ℕ
+blockLength = 4096
+
+abbrev pub tableLength : ℕ
+tableLength = 12288
+
+abbrev pub goalBlock : ℕ
+goalBlock = 8192
+
+abbrev pub distanceLimit : ℕ
+distanceLimit = 1023
+
+abbrev pub startLimit : ℕ
+startLimit = 64512
+
+abbrev pub goalLimit : ℕ
+goalLimit = 65535
+
+abbrev pub costLimit : ℕ
+costLimit = 4194240
+
+abbrev pub noWalkMark : ℕ
+noWalkMark = 65535
+
 abbrev pub largestJob : Job
-largestJob = record { nodes = 1024; lanes = 4096; carriers = 64 }
+largestJob = record { nodes = nodeLimit; lanes = laneLimit; carriers = carrierLimit }
 
 abbrev pub emptyJob : Job
 emptyJob = record { nodes = 1; lanes = 0; carriers = 0 }

@@ -1,12 +1,15 @@
--- Paths, where a carrier stands at a tick, meeting and crossing (page 01, "Paths" and "Network, moves and time").
---     PathOf F s g d l    the list l is a path of d lanes from s to g: it has d + 1 numbers, each of them a node of the floor ("a list of nodes"), "begins at the
---                         start, ends at the goal and joins consecutive nodes by lanes"
---     ShortestPath        "A list of nodes is a shortest path of a move exactly if it has that length": "distance + 1 nodes", so that d is the distance
---     HousePath           "The house path goes from the start, at each step, to the lowest-numbered neighbour whose distance to the goal is one less"
---     At l t x v          the carrier with start tick t on path l stands on node v at tick x. It is "on the floor at ticks t to t + d, both included,
---                         and absent at all others"
---     Meet                "Meeting means one node at one tick"
---     Cross               "Crossing means that between two consecutive ticks two carriers exchange nodes"
+-- Paths, where a carrier stands at a tick, meeting and crossing (rules 3.4 to 3.6 and 6.1 to 6.3).
+--     PathOf F s g d l    the list l is a path of d lanes from s to g: it has d + 1 numbers, each of them a
+--                         node of the floor, begins at the start, ends at the goal, and a lane joins each to
+--                         the next
+--     ShortestPath        a path whose d is the distance of start and goal
+--     HousePath           a shortest path on which each next node has the lowest number of all that a lane
+--                         joins to where it stands and that are one lane nearer to the goal
+--     At l t x v          the carrier with start tick t on path l stands on node v at tick x. It is on the
+--                         floor from tick t to tick t + d, and absent at all others; `gone` is how many
+--                         ticks have gone since t
+--     Meet                two carriers, the second with ′, stand on one node at one tick
+--     Cross               between a tick and the next two carriers exchange two different nodes
 use mathlib.Core.Path.{_≡_}
 use mathlib.Core.Logic.{_≢_}
 use mathlib.Core.List.{List}
@@ -29,7 +32,8 @@ pub record ShortestPath (F : Floor) (s g : ℕ) (path : List ℕ) : Type 0 where
 pub record HousePath (F : Floor) (s g d : ℕ) (path : List ℕ) : Type 0 where
   pub short : Dist F s g d
   pub is-path : PathOf F s g d path
-  pub lowest : (k : ℕ) → k < d → (v : ℕ) → F .Joined (getD path k 0) v → Dist F v g (d - (k + 1)) → getD path (k + 1) 0 ≤ v
+  pub lowest : (k : ℕ) → k < d → (v : ℕ) → F .Joined (getD path k 0) v →
+      Dist F v g (d - (k + 1)) → getD path (k + 1) 0 ≤ v
 
 pub record At (path : List ℕ) (t x v : ℕ) : Type 0 where
   pub gone : ℕ

@@ -1,22 +1,20 @@
--- What a plan of a job is (page 01, "What the planner covers": "works out distances, start ticks, goal ticks and cost"), and the faults of planning ("Refusal
--- numbers"). The rule is "The safe-delay rule for a pair", and what stands where in the table is "What is left" in "Refusal numbers".
---     DistancesOf    the six numbers of a pair are those of two moves: "All four values below come from true distances". The carriers' own are distances; each of the
---                    other four may be the mark 65,535 for "no walk"
---     TablesOf       the tables hold the true distances between starts and goals by carrier numbers, the mark included
---     Plan           the tables are those of the job, each carrier has a walk from its start to its goal, the ticks are the start ticks by the order,
---                    and the cost is the sum of the goal ticks
---     JobFaults      the faults of a job from numbers, 2 to 8
---     tablesIn       the three tables in a list of numbers: "three blocks of 4,096: start to start, start to goal (i's start, j's goal), goal to
---                    goal, each at 64 × i + j"
+-- What a plan of a job is (rules 5.1 to 5.6), and where the distances stand in a lent table (rule 9.8).
+--     DistancesOf    the six numbers of a pair are the true distances of two moves. The carriers' own are
+--                    distances; each of the other four may be the mark for "no walk"
+--     TablesOf       the tables hold the true distances between starts and goals by carrier numbers, the mark
+--                    included
+--     Plan           the tables are those of the job, each carrier has a walk from its start to its goal, the
+--                    ticks are the start ticks by the order, and the cost is the sum of the goal ticks
+--     tablesIn       the three tables in a list of numbers, in three blocks: start to start, start to goal
+--                    (i's start, j's goal), goal to goal, each at 64 × i + j
 use mathlib.Core.Path.{_≡_}
 use mathlib.Core.Logic.{_≢_}
 use mathlib.Core.List.{List}
-use Prim.Native.Nat.{ℕ, _+_, _*_, _≤_, _<_}
-use lib.ListN.{length, getD}
-use Rattle.hall.specs.declared.Fault.{Fault}
-use Rattle.hall.specs.Floor.{Floor, Dist, DistanceIs}
-use Rattle.hall.specs.Job.{Numbers, floor, carriers, start, goal}
-use Rattle.hall.specs.Refusals.{Faults}
+use Prim.Native.Nat.{ℕ, _+_, _*_, _<_}
+use lib.ListN.{getD}
+use Rattle.hall.specs.Limits.{carrierLimit, blockLength, goalBlock, noWalkMark}
+use Rattle.hall.specs.Floor.{Floor, Dist, DistanceIs, floor}
+use Rattle.hall.specs.Job.{Numbers, carriers, start, goal}
 use Rattle.hall.specs.Rule.{Pair}
 use Rattle.hall.specs.Ticks.{Tables, own, StartTicks, costOf}
 
@@ -34,17 +32,14 @@ pub record TablesOf (F : Floor) (k : ℕ) (start goal : ℕ → ℕ) (t : Tables
   pub start-goal : (i j : ℕ) → i < k → j < k → DistanceIs F (start i) (goal j) (t .sg i j)
 
 pub record Plan (j : Numbers) (t : Tables) (tick : ℕ → ℕ) (cost : ℕ) : Type 0 where
-  pub true-distances : TablesOf (floor j) (carriers j) (start j) (goal j) t
-  pub reached : (i : ℕ) → i < carriers j → own t i ≢ 65535
+  pub true-distances : TablesOf (floor (j .network)) (carriers j) (start j) (goal j) t
+  pub reached : (i : ℕ) → i < carriers j → own t i ≢ noWalkMark
   pub ticks : StartTicks t (j .order) tick
   pub cost-is : cost ≡ costOf t tick (carriers j)
 
-abbrev pub JobFaults : Numbers → Fault → ℕ → Type 0
-JobFaults j = Faults ⊥ j (λ n. ⊥) ⊥
-
 abbrev pub tablesIn : List ℕ → Tables
 tablesIn l = record {
-  ss = λ i j. getD l (64 * i + j) 0;
-  sg = λ i j. getD l (4096 + (64 * i + j)) 0;
-  gg = λ i j. getD l (8192 + (64 * i + j)) 0;
+  ss = λ i j. getD l (carrierLimit * i + j) 0;
+  sg = λ i j. getD l (blockLength + (carrierLimit * i + j)) 0;
+  gg = λ i j. getD l (goalBlock + (carrierLimit * i + j)) 0;
 }

@@ -1,23 +1,27 @@
--- The safe-delay rule for a pair (page 01, "The safe-delay rule for a pair"; source document 000, Theorem 5): i is earlier in the order, j later.
--- The rule sees six distances and the difference of two start ticks, and nothing else.
+-- The safe-delay rule for a pair (rules 4.1 to 4.10; source document 000, Theorem 5): i is earlier in the
+-- order, j later. The rule sees six distances and the difference of two start ticks, and nothing else.
 --     Pair         the six distances of a pair
---     lead-i       "Lead of i over j: d(i) minus the distance from j's start to i's goal"
---     lead-j       "Lead of j over i: d(j) minus the distance from i's start to j's goal"
---     gap          "Gap: ds + dg − d(i) − d(j), signed"
+--     lead-i       the lead of i over j: i's own distance minus that from j's start to i's goal (rule 4.3)
+--     lead-j       the lead of j over i: j's own distance minus that from i's start to j's goal
+--     gap          what the ways between the starts and between the goals have over the two own distances
+--                  (rule 4.4)
 --     Odd          a signed number is odd
---     Excepted     "if the gap is 0, D equals one of those two ends, and D − ds is odd, D is permitted"
---     Forbidden    D, "j's start tick minus i's", is forbidden
+--     Excepted     the exception: the gap is 0, D is one of the two ends, and D and the distance of the
+--                  starts differ by an odd number (rule 4.8)
+--     Forbidden    D, j's start tick minus i's, is forbidden
 --     Permitted    D is not forbidden
---     Excepted⁺, Forbidden⁺   the same for two start ticks, with additions only; `forbidden-iff` (proofs/Rules.antt) says that they are the same
+--     Excepted⁺, Forbidden⁺   the same for two start ticks, with additions only; `forbidden-iff`
+--                             (proofs/Rules.antt) says that they are the same
 --     pair6        a pair from its six distances, in the order of its fields
---     Answers      a yes or no tells whether a statement holds: of the rule, and of every other question that is answered so in the crates above, which cite
---                  it from here
+--     Answers      a yes or no tells whether a statement holds: of the rule, and of every other question that
+--                  is answered so in the crates above, which cite it from here
 use mathlib.Core.Path.{_≡_}
 use mathlib.Core.Logic.{_⊎_, _≢_}
 use mathlib.Core.Bool.{Bool, true, false}
 use Prim.Native.Nat.{ℕ, _+_, _%_, _≤_}
 use lib.IntN.{ℤ, pos, negℤ, _+ℤ_, _-ℤ_, natAbs}
 use lib.Signed.{_≤ℤ_}
+use Rattle.hall.specs.Limits.{noWalkMark}
 
 pub record Pair : Type 0 where
   -- between the two starts, and between the two goals
@@ -48,14 +52,14 @@ pub record Excepted (p : Pair) (D : ℤ) : Type 0 where
   pub odd : Odd (D -ℤ pos (p .ss))
 
 pub record Forbidden (p : Pair) (D : ℤ) : Type 0 where
-  -- "If no walk joins the two starts, every D is permitted."
-  pub joined : p .ss ≢ 65535
-  -- "If the gap is above 0, every D is permitted."
+  -- where no walk joins the two starts, everything is permitted (rule 4.5)
+  pub joined : p .ss ≢ noWalkMark
+  -- where the gap is above 0, everything is permitted (rule 4.6)
   pub gap-not-above : gap p ≤ℤ pos 0
-  -- "at least minus (lead of j over i) and at most (lead of i over j)"
+  -- from minus the lead of j to the lead of i, both ends included (rule 4.7)
   pub low : negℤ (lead-j p) ≤ℤ D
   pub high : D ≤ℤ lead-i p
-  -- "with one exception"
+  -- but for the exception (rule 4.8)
   pub not-excepted : ¬ Excepted p D
 
 abbrev pub Permitted : Pair → ℤ → Type 0
@@ -69,7 +73,7 @@ pub record Excepted⁺ (p : Pair) (ti tj : ℕ) : Type 0 where
   pub odd : (ti + tj + p .ss) % 2 ≡ 1
 
 pub record Forbidden⁺ (p : Pair) (ti tj : ℕ) : Type 0 where
-  pub joined : p .ss ≢ 65535
+  pub joined : p .ss ≢ noWalkMark
   pub gap-not-above : p .ss + p .gg ≤ p .ii + p .jj
   pub low : ti + p .ij ≤ tj + p .jj
   pub high : tj + p .ji ≤ ti + p .ii

@@ -1,33 +1,39 @@
--- What an accepted job owes the hall (page 01, "Network, moves and time" and "What the planner covers").
+-- What an accepted job owes the hall (rules 3.4, 5.6, 5.7 and 12.3).
 --     Apart       two carriers neither meet nor cross
---     Demand3     demand 3 of one choice of shortest paths, a path for each carrier: "no two ever stand on one node at one tick or cross on one lane; each stands at its
---                 goal exactly its distance after its start; the first in the order starts at 0; no other starts later than one tick after the latest goal tick among
---                 those before it". `present` and `absent` say when a carrier is on the floor: "at ticks t to t + d, both included, and absent at all others".
---                 "In an accepted job, whatever shortest paths the carriers take" is the quantifier of `plan-safe` (proofs/Demand.antt), over all such choices
---     Within      "a start tick is at most 64,512, a goal tick at most 65,535, a cost at most 4,194,240"
+--     Demand3     demand 3 of one choice of shortest paths, a path for each carrier: no two carriers meet or
+--                 cross; each stands at its goal exactly its distance after its start, and at no other tick;
+--                 it is on the floor from its start tick to its goal tick and absent otherwise; the first in
+--                 the order starts at 0; no other starts later than one tick after the latest goal tick among
+--                 those before it. That this holds of every choice is the quantifier of `plan-safe`
+--                 (proofs/Demand.antt)
+--     Within      the limits of start ticks, goal ticks and cost
 use mathlib.Core.Path.{_≡_}
 use mathlib.Core.Logic.{_≢_}
 use mathlib.Core.List.{List}
 use Prim.Native.Nat.{ℕ, _+_, _≤_, _<_}
 use lib.ListN.{length, getD}
+use Rattle.hall.specs.Limits.{startLimit, goalLimit, costLimit}
 use Rattle.hall.specs.Floor.{Floor, Dist}
 use Rattle.hall.specs.Ticks.{Tables, own, goalTick, latest}
 use Rattle.hall.specs.Path.{At, Meet, Cross}
 
 abbrev pub Apart : (path : ℕ → List ℕ) (tick : ℕ → ℕ) → ℕ → ℕ → Type 0
-Apart path tick i j = (¬ Meet (path i) (tick i) (path j) (tick j)) × (¬ Cross (path i) (tick i) (path j) (tick j))
+Apart path tick i j =
+    (¬ Meet (path i) (tick i) (path j) (tick j)) × (¬ Cross (path i) (tick i) (path j) (tick j))
 
-pub record Demand3 (F : Floor) (k : ℕ) (start goal : ℕ → ℕ) (t : Tables) (order : List ℕ) (tick : ℕ → ℕ) (path : ℕ → List ℕ) : Type 0 where
+pub record Demand3 (F : Floor) (k : ℕ) (start goal : ℕ → ℕ) (t : Tables) (order : List ℕ) (tick : ℕ → ℕ)
+    (path : ℕ → List ℕ) : Type 0 where
   pub apart : (i j : ℕ) → i < k → j < k → i ≢ j → Apart path tick i j
   pub distances : (i : ℕ) → i < k → Dist F (start i) (goal i) (own t i)
   pub at-goal : (i : ℕ) → i < k → At (path i) (tick i) (tick i + own t i) (goal i)
   pub only-then : (i : ℕ) → i < k → (x : ℕ) → At (path i) (tick i) x (goal i) → x ≡ tick i + own t i
-  pub present : (i : ℕ) → i < k → (x : ℕ) → tick i ≤ x → x ≤ tick i + own t i → (v : ℕ) × At (path i) (tick i) x v
+  pub present : (i : ℕ) → i < k → (x : ℕ) → tick i ≤ x → x ≤ tick i + own t i →
+      (v : ℕ) × At (path i) (tick i) x v
   pub absent : (i : ℕ) → i < k → (x v : ℕ) → At (path i) (tick i) x v → (tick i ≤ x) × (x ≤ tick i + own t i)
   pub first-at-0 : 0 < length order → tick (getD order 0 0) ≡ 0
   pub bound : (q : ℕ) → q < length order → tick (getD order q 0) ≤ latest order (goalTick t tick) q + 1
 
 pub record Within (k : ℕ) (t : Tables) (tick : ℕ → ℕ) (cost : ℕ) : Type 0 where
-  pub start-ticks : (i : ℕ) → i < k → tick i ≤ 64512
-  pub goal-ticks : (i : ℕ) → i < k → goalTick t tick i ≤ 65535
-  pub cost-limit : cost ≤ 4194240
+  pub start-ticks : (i : ℕ) → i < k → tick i ≤ startLimit
+  pub goal-ticks : (i : ℕ) → i < k → goalTick t tick i ≤ goalLimit
+  pub cost-limit : cost ≤ costLimit

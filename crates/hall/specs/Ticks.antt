@@ -1,17 +1,22 @@
--- Start ticks (page 01, "The safe-delay rule for a pair", last paragraph). They speak of distances and an order, and of no network.
---     SmallestFrom        x is the smallest of the permitted ticks that are not before a given tick: "the smallest tick from 0 up that is permitted", with any tick in
---                         the place of 0 and any statement of what is permitted
---     PermittedBy         tick x is permitted against the first n of some carriers that are already placed, each with the pair that it makes with the
---                         new one (the placed one is i, the new one j) and with its own start tick
---     Tables              the three tables of distances by carrier numbers: start to start, start to goal (i's start, j's goal), goal to goal
+-- Start ticks (rules 5.1 to 5.5). They speak of distances and an order, and of no network.
+--     SmallestFrom        x is the smallest of the permitted ticks that are not before a given tick, with any
+--                         statement of what is permitted
+--     PermittedBy         tick x is permitted against the first n of some carriers that are already placed,
+--                         each with the pair that it makes with the new one (the placed one is i, the new one
+--                         j) and with its own start tick
+--     Tables              the three tables of distances by carrier numbers: start to start, start to goal
+--                         (i's start, j's goal), goal to goal
 --     own                 a carrier's own distance
 --     pairOf t i j        the six distances of carriers i and j
---     PermittedAt         the same for the carrier at place q of an order, against those at the places before q
---     StartTicks          "Each next one gets the smallest tick from 0 up that is permitted against every carrier placed before it". That the first
---                         starts at tick 0 follows: `first-at-zero` (proofs/Ticks.antt)
---     goalTick            start tick plus distance, t + d: the last tick at which a carrier is on the floor
+--     PermittedAt         the same for the carrier at place q of an order, against those at the places before
+--                         q
+--     StartTicks          each carrier in the order's turn has the smallest tick, from 0 up, that every
+--                         carrier placed before it permits. That the first starts at tick 0 follows:
+--                         `first-at-zero` (proofs/Ticks.antt)
+--     goalTick            start tick plus distance: the last tick at which a carrier is on the floor
 --     latest              the latest of the goal ticks at the places before q, 0 if q is 0
---     total, costOf       the cost is the sum of the goal ticks (source document 000, Definition 2: the sum over the agents of their arrival times)
+--     total, costOf       the cost is the sum of the goal ticks (source document 000, Definition 2: the sum
+--                         over the agents of their arrival times)
 use mathlib.Core.Path.{_≡_}
 use mathlib.Core.List.{List}
 use Prim.Native.Nat.{ℕ, zero, suc, _+_, _≤_, _<_, max}
@@ -36,14 +41,24 @@ abbrev pub own : Tables → ℕ → ℕ
 own t i = t .sg i i
 
 abbrev pub pairOf : Tables → ℕ → ℕ → Pair
-pairOf t i j = record { ss = t .ss i j; gg = t .gg i j; ii = t .sg i i; jj = t .sg j j; ij = t .sg i j; ji = t .sg j i }
+pairOf t i j = record {
+  ss = t .ss i j;
+  gg = t .gg i j;
+  ii = t .sg i i;
+  jj = t .sg j j;
+  ij = t .sg i j;
+  ji = t .sg j i;
+}
 
--- tick x is permitted to the carrier at place q against every carrier placed before it; `tick i` is carrier i's start tick
+-- tick x is permitted to the carrier at place q against every carrier placed before it; `tick i` is carrier
+-- i's start tick
 abbrev pub PermittedAt : (t : Tables) (order : List ℕ) (tick : ℕ → ℕ) → ℕ → ℕ → Type 0
-PermittedAt t order tick q = PermittedBy q (λ p. pairOf t (getD order p 0) (getD order q 0)) (λ p. tick (getD order p 0))
+PermittedAt t order tick q =
+    PermittedBy q (λ p. pairOf t (getD order p 0) (getD order q 0)) (λ p. tick (getD order p 0))
 
 pub record StartTicks (t : Tables) (order : List ℕ) (tick : ℕ → ℕ) : Type 0 where
-  pub smallest : (q : ℕ) → q < length order → SmallestFrom 0 (PermittedAt t order tick q) (tick (getD order q 0))
+  pub smallest : (q : ℕ) → q < length order →
+      SmallestFrom 0 (PermittedAt t order tick q) (tick (getD order q 0))
 
 abbrev pub goalTick : Tables → (ℕ → ℕ) → ℕ → ℕ
 goalTick t tick i = tick i + own t i

@@ -1,9 +1,10 @@
-// The types that every crate shares, in the words of page 01: a job's counts with their limits, a place in the order, a carrier's number, faults and refusals. The
-// mathematics that they speak about stands in specs/, its laws in proofs/. Nothing here refuses or searches; the one function that writes is in zero.rt.
+// The types that every crate shares, in the words of the rules: a job's counts with their limits, a place in
+// the order, a carrier's number, faults and refusals. The mathematics that they speak about stands in specs/,
+// its laws in proofs/. Nothing here refuses or searches; the one function that writes is in zero.rt.
 ghost use mathlib.Core.Path.{_≡_};
 ghost use lib.ListN.{getD};
 ghost use denote.Ref.{now};
-ghost use Rattle.hall.specs.Refusals.{numberOf};
+ghost use Rattle.hall.specs.Numbers.{numberOf};
 ghost use Rattle.hall.specs.Limits.{largestJob, emptyJob};
 
 pub mod zero;
@@ -21,6 +22,19 @@ impl Job {
     pub const LANES: usize = 4096;
 
     pub const CARRIERS: usize = 64;
+
+    // Two numbers for each lane, and for each move, that a job can have.
+    pub const LANE_NUMBERS: usize = 2 * Job::LANES;
+
+    pub const MOVE_NUMBERS: usize = 2 * Job::CARRIERS;
+
+    // A block of the distance table has a place for every two carriers, and the table has three blocks.
+    pub const BLOCK: usize = Job::CARRIERS * Job::CARRIERS;
+
+    pub const TABLE: usize = 3 * Job::BLOCK;
+
+    // What stands for "no walk" in the place of a distance.
+    pub const NO_WALK: u16 = 65535;
 
     // The counts at the limits: whatever is past one of them is refused.
     pub fn largest() -> Self
@@ -52,7 +66,8 @@ pub struct Place(pub usize);
 pub struct Carrier(pub u16);
 
 impl Place {
-    // The carrier at this place, in an order that lists carrier numbers by place. Past the order's end it is carrier 0.
+    // The carrier at this place, in an order that lists carrier numbers by place. Past the order's end it is
+    // carrier 0.
     pub fn carrier(self, order: &[u16]) -> Carrier
         ensures { λ r. ⌜ r .0 ≡ getD (now (order .entry)) (self .0) 0 ⌝ }
     {
@@ -64,7 +79,7 @@ impl Place {
     }
 }
 
-// Why a question is refused: one variant for each refusal number of the page, in its order.
+// Why a question is refused: one variant for each refusal number, in order.
 pub enum Fault {
     Malformed,
     BadCount,
@@ -80,7 +95,7 @@ pub enum Fault {
 }
 
 impl Fault {
-    // The page's number of a fault.
+    // The listed number of a fault.
     pub fn number(self) -> u8
         ensures { λ r. ⌜ r ≡ numberOf self ⌝ }
     {

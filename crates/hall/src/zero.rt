@@ -1,5 +1,6 @@
-// What a refusal leaves: the first places of a lent table become zero. It is for tables of `u16` numbers, which are nodes, order and distances; it never refuses, and
-// a table that is shorter than asked for becomes zero throughout.
+// What a refusal leaves: the first places of a lent table become zero. It is for tables of `u16` numbers,
+// which are nodes, order and distances; it never refuses, and a table that is shorter than asked for becomes
+// zero throughout.
 ghost use mathlib.Core.Path.{_≡_};
 ghost use Prim.Native.Nat.{_≤_};
 ghost use lib.ListN.{length};

@@ -1,7 +1,6 @@
 -- Laws of the questions with a whole job, from the bottom up.
---     steps          Shortness, Loading, ReadRecords, ReadJob, ReadExactly, PlanRecords, AskRecords
---     the promises   Unique: one outcome for each input; PathAnswers: the questions about one carrier agree; Demands: what they say to the hall
-pub mod Shortness
+--     steps          Loading, ReadRecords, ReadJob, ReadExactly, PlanRecords, AskRecords
+--     the promises   Unique: one outcome for each input; PathAnswers: the questions about one carrier agree
 pub mod Loading
 pub mod ReadRecords
 pub mod ReadJob
@@ -10,4 +9,3 @@ pub mod PlanRecords
 pub mod AskRecords
 pub mod Unique
 pub mod PathAnswers
-pub mod Demands

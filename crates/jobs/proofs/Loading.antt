@@ -1,8 +1,10 @@
--- The moves that are loaded are those of the records, as far as an answer goes. Up to 65 records all moves are loaded. Where there are more, 65 are, which is more than 64
--- too, and an answer that any two such jobs share is an answer for the records' own moves. The part of the local list that is handed on is that of the
+-- The moves that are loaded are those of the records, as far as an answer goes. Up to 65 records all moves
+-- are loaded. Where there are more, 65 are, which is more than 64 too, and an answer that any two such jobs
+-- share is an answer for the records' own moves. The part of the local list that is handed on is that of the
 -- loaded moves: no list has more numbers than it has. Assumes nothing.
 --     part-length, part-as    the part that is handed on: its length, and what holds of it
---     loaded-as               what holds of the loaded moves holds of the records' moves, if it holds alike of any moves of more than 64 carriers
+--     loaded-as               what holds of the loaded moves holds of the records' moves, if it holds alike
+--                             of any moves of more than 64 carriers
 use mathlib.Core.Path.{_≡_, sym, _∙_, ap, subst}
 use mathlib.Core.List.{List}
 use Prim.Native.Nat.{ℕ, _*_, _/_, _≤_, _<_, min}
@@ -10,6 +12,8 @@ use native.Mathlib.Decide.{decLe}
 use native.Mathlib.Omega.{arith}
 use lib.ListN.{length, take, replicate, length-take, length-replicate}
 use lib.Seq.{take-all, take-length, length-take-le}
+use Rattle.hall.specs.Limits.{carrierLimit}
+use Rattle.hall.specs.Job.{moveCount}
 use Rattle.records.specs.declared.Record.{Record}
 use Rattle.records.specs.Table.{movesOf, moved}
 use Rattle.records.proofs.Laws.{moves-count, moved-length, moved-front}
@@ -41,10 +45,11 @@ few-loaded rs few =
     let m : min (length rs) 65 ≡ length rs = omega arith in
     rw m (moved-front rs zeros130 (omega (arith, length-replicate {A = ℕ} 130 0)))
 
-many-loaded : (rs : List Record) → 65 < length rs → 64 < length (loaded (length rs) (moved rs zeros130)) / 2
+many-loaded : (rs : List Record) → 65 < length rs → carrierLimit < moveCount (loaded (length rs) (moved rs zeros130))
 many-loaded rs many = rw (length-take (2 * min (length rs) 65) (moved rs zeros130), moved-length rs zeros130, length-replicate {A = ℕ} 130 0) (omega arith)
 
-pub loaded-as : (rs : List Record) (P : List ℕ → Type 0) → ((ms ms′ : List ℕ) → 64 < length ms / 2 → 64 < length ms′ / 2 → P ms → P ms′)
+pub loaded-as : (rs : List Record) (P : List ℕ → Type 0) →
+    ((ms ms′ : List ℕ) → carrierLimit < moveCount ms → carrierLimit < moveCount ms′ → P ms → P ms′)
     → P (loaded (length rs) (moved rs zeros130)) → P (movesOf rs)
 loaded-as rs P alike a = cases (decLe (length rs) 65)
   where

@@ -1,16 +1,22 @@
--- Planning over records is planning from their numbers. What is planned of the loaded moves is the plan of the records' moves, since jobs of more than 64 carriers are
--- refused alike. The local lists of 64 distances and 64 ticks are long enough, so 9 is the table's alone. After a cost every record has the carrier's
--- distance and tick of those lists, and past the records both lists are zero, as a missing record is; after a refusal no record is written. Assumes nothing.
---     records-planned     the promise of `plan`, from that of `plan_moves` and from the records that are written
+-- Planning over records is planning from their numbers. What is planned of the loaded moves is the plan of
+-- the records' moves, since jobs of more than 64 carriers are refused alike. The local lists of 64 distances
+-- and 64 ticks are long enough, so 9 is the table's alone. After a cost every record has the carrier's
+-- distance and tick of those lists, and past the records both lists are zero, as a missing record is; after a
+-- refusal no record is written. Assumes nothing.
+--     records-planned     the promise of `plan`, from that of `plan_moves` and from the records that are
+--                         written
 use mathlib.Core.Path.{_≡_, refl, sym, _∙_, ap, subst}
 use mathlib.Core.List.{List}
-use Prim.Native.Nat.{ℕ, _/_, _≤_, _<_}
+use Prim.Native.Nat.{ℕ, _≤_, _<_}
 use native.Mathlib.Decide.{decLt}
 use native.Mathlib.Omega.{arith}
 use lib.ListN.{length, getD, replicate, length-replicate, List·getD-eq-default}
-use Rattle.hall.specs.declared.Refusal.{Refusal}
-use Rattle.hall.specs.Job.{Numbers}
+use Rattle.hall.specs.Limits.{carrierLimit, tableLength}
+use Rattle.hall.specs.Floor.{Network}
+use Rattle.hall.specs.Job.{Numbers, jobOf, moveCount}
+use Rattle.hall.specs.Said.{accepted, refused}
 use Rattle.hall.specs.Plan.{Plan, tablesIn}
+use Rattle.hall.proofs.Places.{none-as, first-as}
 use Rattle.hall.proofs.Sound.{carriers-limit}
 use Rattle.records.specs.declared.Record.{Record}
 use Rattle.records.specs.Table.{blank, recordAt, withTimes, moved, timed}
@@ -18,14 +24,13 @@ use Rattle.records.proofs.Lists.{timed-length}
 use Rattle.records.proofs.Laws.{moves-count, timed-at, timed-past}
 use Rattle.planner.specs.declared.Planned.{Planned}
 use Rattle.planner.specs.declared.Planned.the-variants.{Cost, Refused}
-use Rattle.planner.specs.Planning as numbers
-use Rattle.planner.specs.Planning.{job, lent, Short, short-table, short-distances, short-ticks}
+use Rattle.planner.specs.Planning.{saidPlanned, lent, Short, short-table, short-distances, short-ticks}
+use Rattle.planner.specs.Planning.{NumbersPlanned, NumbersRefused, Planning}
 use Rattle.planner.proofs.Faults.{none-checked}
 use Rattle.planner.proofs.Crowd.{planning-alike}
-use Rattle.jobs.specs.Job.{jobOf}
-use Rattle.jobs.specs.Planning.{tickOf, Accepted, Refuses, Given, Planning}
+use Rattle.jobs.specs.Job.{recordJob}
+use Rattle.jobs.specs.Planning.{tickOf, RecordsPlanned, RecordsRefused, GivenRecords, RecordPlanning}
 use Rattle.jobs.specs.Loading.{loaded, storedCount}
-use Rattle.jobs.proofs.Shortness.{none-as, first-as}
 use Rattle.jobs.proofs.Loading.{zeros130, loaded-as}
 
 -- ---- 9
@@ -33,25 +38,25 @@ use Rattle.jobs.proofs.Loading.{zeros130, loaded-as}
 abbrev zeros64 : List ℕ
 zeros64 = replicate 64 0
 
-table-short : (n : ℕ) → Short n (length zeros64) (length zeros64) → n < 12288
-table-short n (short-table h) = h
-table-short n (short-distances h) = absurd (let x : ⊥ = omega (arith, length-replicate {A = ℕ} 64 0) in x)
-table-short n (short-ticks h) = absurd (let x : ⊥ = omega (arith, length-replicate {A = ℕ} 64 0) in x)
+table-short : {n : ℕ} → Short n (length zeros64) (length zeros64) → n < tableLength
+table-short (short-table h) = h
+table-short (short-distances h) = absurd (let x : ⊥ = omega (arith, length-replicate {A = ℕ} 64 0) in x)
+table-short (short-ticks h) = absurd (let x : ⊥ = omega (arith, length-replicate {A = ℕ} 64 0) in x)
 
 -- ---- the records that are written
 
-module _ (nodes : ℕ) (lanes : List ℕ) (rs : List Record) (order table table′ ds ks : List ℕ) where
+module _ (N : Network) (rs : List Record) (order table table′ ds ks : List ℕ) where
   abbrev j : Numbers
-  j = jobOf nodes lanes rs order
+  j = recordJob N rs order
 
-  module _ (c : ℕ) (a : numbers.Accepted j (lent table zeros64 zeros64) (lent table′ ds ks) c) where
-    few : length rs ≤ 64
+  module _ (c : ℕ) (a : NumbersPlanned j (lent table zeros64 zeros64) (lent table′ ds ks) c) where
+    few : length rs ≤ carrierLimit
     few = rw (moves-count rs) at (carriers-limit j (none-checked j (lent table zeros64 zeros64) (a .no-fault)))
 
-    distances-long : length ds ≡ 64
+    distances-long : length ds ≡ carrierLimit
     distances-long = a .distances-left .size ∙ length-replicate {A = ℕ} 64 0
 
-    ticks-long : length ks ≡ 64
+    ticks-long : length ks ≡ carrierLimit
     ticks-long = a .ticks-left .size ∙ length-replicate {A = ℕ} 64 0
 
     written : (i : ℕ) → i < length rs → recordAt (timed (length rs) rs ds ks) i ≡ withTimes (recordAt rs i) (getD ds i 0) (getD ks i 0)
@@ -59,9 +64,9 @@ module _ (nodes : ℕ) (lanes : List ℕ) (rs : List Record) (order table table�
 
     -- past the records a tick is zero, and so is that of a missing record
     no-tick : (i : ℕ) → length rs ≤ i → getD ks i 0 ≡ 0
-    no-tick i h = cases (decLt i 64)
+    no-tick i h = cases (decLt i carrierLimit)
       where
-        cases : Dec (i < 64) → getD ks i 0 ≡ 0
+        cases : Dec (i < carrierLimit) → getD ks i 0 ≡ 0
         cases (yes l) = a .ticks-left .unused i (rw (moves-count rs) h) l
         cases (no l) = List·getD-eq-default ks 0 {n = i} (omega (arith, ticks-long))
 
@@ -75,9 +80,9 @@ module _ (nodes : ℕ) (lanes : List ℕ) (rs : List Record) (order table table�
         cases (yes h) = sym (ap (λ (x : Record). x .tick) (written i h))
         cases (no h) = no-tick i (omega arith) ∙ sym (ap (λ (x : Record). x .tick) (no-record i (omega arith)))
 
-    records-accepted : Accepted j rs (timed (length rs) rs ds ks) table table′ c
+    records-accepted : RecordsPlanned j rs (timed (length rs) rs ds ks) table table′ c
     records-accepted = record {
-      no-fault = none-as j (λ n. ⊥) ⊥ short-table (a .no-fault);
+      no-fault = none-as table-short short-table (a .no-fault);
       plan = subst (λ (t : ℕ → ℕ). Plan j (tablesIn table′) t c) (λ k i. same-tick i k) (a .plan);
       records-left = record {
         as-many = timed-length (length rs) rs ds ks;
@@ -88,20 +93,32 @@ module _ (nodes : ℕ) (lanes : List ℕ) (rs : List Record) (order table table�
       table-left = a .table-left;
     }
 
-  records-refused : (r : Refusal) → numbers.Refuses j (lent table zeros64 zeros64) (lent table′ ds ks) r → Refuses j rs rs table table′ r
-  records-refused r a = record { first = first-as j (λ n. ⊥) ⊥ (table-short (length table)) short-table (a .first); records-kept = refl; table-left = a .table-left }
+  records-refused : (n p : ℕ) → NumbersRefused j (lent table zeros64 zeros64) (lent table′ ds ks) n p →
+      RecordsRefused j rs rs table table′ n p
+  records-refused n p a = record {
+    first = first-as table-short short-table (a .first);
+    records-kept = refl;
+    table-left = a .table-left;
+  }
 
-  given-records : (r : Planned) → numbers.Planning j (lent table zeros64 zeros64) (lent table′ ds ks) r → Given j rs (timed (storedCount r (length rs)) rs ds ks) table table′ r
+  given-records : (r : Planned) → Planning j (lent table zeros64 zeros64) (lent table′ ds ks) (saidPlanned r) →
+      GivenRecords j rs (timed (storedCount r (length rs)) rs ds ks) table table′ (saidPlanned r)
   given-records (Cost c) a = records-accepted c a
-  given-records (Refused r) a = records-refused r a
+  given-records (Refused r) a = records-refused _ _ a
 
   -- planning from the numbers of some moves
-  abbrev Numbered : Planned → List ℕ → Type 0
-  Numbered r ms = numbers.Planning (job nodes lanes ms order) (lent table zeros64 zeros64) (lent table′ ds ks) r
+  abbrev PlannedOf : Planned → List ℕ → Type 0
+  PlannedOf r ms = Planning (jobOf N ms order) (lent table zeros64 zeros64) (lent table′ ds ks) (saidPlanned r)
 
-  pub records-planned : (rs′ : List Record) (r : Planned) → Numbered r (loaded (length rs) (moved rs zeros130))
-      → rs′ ≡ timed (storedCount r (length rs)) rs ds ks → Planning nodes lanes lanes rs rs′ order order table table′ r
-  records-planned rs′ r a e = record { given = rw e (given-records r (loaded-as rs (Numbered r) alike a)); lanes-kept = refl; order-kept = refl }
+  pub records-planned : (rs′ : List Record) (r : Planned) → PlannedOf r (loaded (length rs) (moved rs zeros130)) →
+      rs′ ≡ timed (storedCount r (length rs)) rs ds ks → RecordPlanning N N rs rs′ order order table table′ r
+  records-planned rs′ r a e = record {
+    given = rw e (given-records r (loaded-as rs (PlannedOf r) alike a));
+    network-kept = refl;
+    order-kept = refl;
+  }
     where
-      alike : (ms ms′ : List ℕ) → 64 < length ms / 2 → 64 < length ms′ / 2 → Numbered r ms → Numbered r ms′
-      alike ms ms′ many many′ = planning-alike nodes lanes order ms ms′ many many′ (lent table zeros64 zeros64) (lent table′ ds ks) r
+      alike : (ms ms′ : List ℕ) → carrierLimit < moveCount ms → carrierLimit < moveCount ms′ →
+          PlannedOf r ms → PlannedOf r ms′
+      alike ms ms′ many many′ =
+          planning-alike N order ms ms′ many many′ (lent table zeros64 zeros64) (lent table′ ds ks) (saidPlanned r)

@@ -1,6 +1,7 @@
--- The job that an accepted reading leaves in the tables is the one that the text writes. Each table begins with the job's numbers, and the counts say how many these are; the
--- records made of moves have those moves. So what is cut out of the tables by the counts is the job that was read, and the text is its written form; it
--- has no fault of the checks 2 to 7, and planning it can give 8 only. Assumes nothing.
+-- The job that an accepted reading leaves in the tables is the one that the text writes. Each table begins
+-- with the job's numbers, and the counts say how many these are; the records made of moves have those moves.
+-- So what is cut out of the tables by the counts is the job that was read, and the text is its written form;
+-- it has no fault of the checks 2 to 7, and planning it can give 8 only. Assumes nothing.
 --     read-is-written    the text is the written form of the job in the tables
 use mathlib.Core.Path.{_≡_, refl, sym, _∙_, ap, subst}
 use mathlib.Core.Bool.{Bool, true, false}
@@ -10,10 +11,11 @@ use native.Mathlib.Omega.{arith}
 use lib.ListN.{length, take}
 use lib.Seq.{take-at}
 use Rattle.hall.specs.declared.Job.{Job}
-use Rattle.hall.specs.declared.Refusal.{Refusal}
 use Rattle.hall.specs.declared.Fault.the-variants.{ShortTable}
-use Rattle.hall.specs.Limits.{emptyJob}
-use Rattle.hall.specs.Job.{Numbers, carriers}
+use Rattle.hall.specs.Limits.{carrierLimit, laneNumbers, emptyJob}
+use Rattle.hall.specs.Floor.{networkOf}
+use Rattle.hall.specs.Job.{Numbers, jobOf, carriers}
+use Rattle.hall.specs.Said.{Said, accepted, refused}
 use Rattle.records.specs.declared.Record.{Record}
 use Rattle.records.specs.Table.{movesOf}
 use Rattle.records.proofs.Lists.{two-more}
@@ -25,7 +27,8 @@ use Rattle.written.specs.Accepted.{WrittenForm}
 use Rattle.written.proofs.AcceptedTexts.{accepted-text}
 use Rattle.written.proofs.JobChecks.{LinesFine}
 use Rattle.written.proofs.WrittenForm.{accepted-written}
-use Rattle.jobs.specs.Reading.{Outcome, outcome, short, recordsOf, filledRecords, leftBy, readOutcome, ReadLeft, jobRead}
+use Rattle.jobs.specs.Reading.{RecordsOutcome, recordsOutcome, recordsShort, recordsOf, filledRecords, leftRecords}
+use Rattle.jobs.specs.Reading.{recordsRead, ReadLeft, jobRead}
 use Rattle.jobs.proofs.ReadRecords.{records-of-moves}
 
 -- ---- what stands in front of each table
@@ -46,38 +49,38 @@ front-records ms k rs e = ap movesOf (take-at (recordsOf ms) _ k (records-of-mov
 
 -- ---- an answer with counts is no refusal
 
-abbrev countsIn : Read → Job
-countsIn (Read.Job c) = c
-countsIn (Read.Refused r) = emptyJob
+abbrev countsIn : Said Job → Job
+countsIn (accepted c) = c
+countsIn (refused n p) = emptyJob
 
-abbrev refusals : Read → ℕ
-refusals (Read.Job c) = 0
-refusals (Read.Refused r) = 1
+abbrev refusals : Said Job → ℕ
+refusals (accepted c) = 0
+refusals (refused n p) = 1
 
-pub never-refused : {c : Job} {r : Refusal} {B : Type 0} → Read.Job c ≡ Read.Refused r → B
+pub never-refused : {c : Job} {n p : ℕ} {B : Type 0} → accepted c ≡ refused n p → B
 never-refused e = absurd (let x : _≡_ {A = ℕ} 0 1 = ap refusals e in omega (arith, x))
 
 module _ (text lanes lanes′ : List ℕ) (records records′ : List Record) (order order′ : List ℕ) (counts : Job) where
-  pub same-numbers : (j : Numbers) → LinesFine j → outcome (Read.Job counts) lanes′ records′ order′ ≡ leftBy (job j) lanes records order → jobRead counts lanes′ records′ order′ ≡ j
-  unfolding leftBy
+  pub same-numbers : (j : Numbers) → LinesFine j → recordsOutcome (accepted counts) lanes′ records′ order′ ≡ leftRecords (job j) lanes records order → jobRead counts lanes′ records′ order′ ≡ j
+  unfolding leftRecords
   same-numbers j fine e =
-      let c : counts ≡ countsOf j = ap (λ (x : Outcome). countsIn (x .answer)) e in
-      let l = ap (λ (x : Outcome). take (2 * countsIn (x .answer) .lanes) (x .lanes)) e ∙ front (j .lanes) _ 8192 lanes (fine .lanes-paired) in
-      let m = ap (λ (x : Outcome). movesOf (take (countsIn (x .answer) .carriers) (x .records))) e ∙ front-records (j .moves) (carriers j) records (fine .moves-paired) in
-      let o = ap (λ (x : Outcome). take (countsIn (x .answer) .carriers) (x .order)) e ∙ front (j .order) _ 64 order (fine .order-counted) in
-      λ i. record { nodes = c i .nodes; lanes = l i; moves = m i; order = o i }
+      let c : counts ≡ countsOf j = ap (λ (x : RecordsOutcome). countsIn (x .said)) e in
+      let l = ap (λ (x : RecordsOutcome). take (2 * countsIn (x .said) .lanes) (x .lanes)) e ∙ front (j .network .lanes) _ laneNumbers lanes (fine .lanes-paired) in
+      let m = ap (λ (x : RecordsOutcome). movesOf (take (countsIn (x .said) .carriers) (x .records))) e ∙ front-records (j .moves) (carriers j) records (fine .moves-paired) in
+      let o = ap (λ (x : RecordsOutcome). take (countsIn (x .said) .carriers) (x .order)) e ∙ front (j .order) _ carrierLimit order (fine .order-counted) in
+      λ i. jobOf (networkOf (c i .nodes) (l i)) (m i) (o i)
 
-  left-written : (whole : Reading) → reading text ≡ whole → outcome (Read.Job counts) lanes′ records′ order′ ≡ leftBy whole lanes records order
+  left-written : (whole : Reading) → reading text ≡ whole → recordsOutcome (accepted counts) lanes′ records′ order′ ≡ leftRecords whole lanes records order
       → WrittenForm text (jobRead counts lanes′ records′ order′)
-  unfolding leftBy
+  unfolding leftRecords
   left-written (job j) reads e = subst (WrittenForm text) (sym (same-numbers j (accepted-text text {j = j} reads .fine) e)) (accepted-written text j reads)
-  left-written (refusal fault line) reads e = never-refused (ap (λ (x : Outcome). x .answer) e)
+  left-written (refusal fault line) reads e = never-refused (ap (λ (x : RecordsOutcome). x .said) e)
 
   pub read-is-written : {text′ : List ℕ} → ReadLeft text text′ lanes lanes′ records records′ order order′ (Read.Job counts) → WrittenForm text (jobRead counts lanes′ records′ order′)
-  unfolding readOutcome
-  read-is-written a = cases (short (length lanes) (length records) (length order)) (a .given)
+  unfolding recordsRead
+  read-is-written a = cases (recordsShort (length lanes) (length records) (length order)) (a .given)
     where
-      cases : (b : Bool) → outcome (Read.Job counts) lanes′ records′ order′ ≡ pick b (outcome (refuse ShortTable 0) lanes records order) (leftBy (reading text) lanes records order)
+      cases : (b : Bool) → recordsOutcome (accepted counts) lanes′ records′ order′ ≡ pick b (recordsOutcome (refuse ShortTable 0) lanes records order) (leftRecords (reading text) lanes records order)
           → WrittenForm text (jobRead counts lanes′ records′ order′)
-      cases true e = never-refused (ap (λ (x : Outcome). x .answer) e)
+      cases true e = never-refused (ap (λ (x : RecordsOutcome). x .said) e)
       cases false e = left-written (reading text) refl e

@@ -1,9 +1,12 @@
--- Reading into records is reading into numbers. The starts and goals that a text gives stand by turns in front of 128 numbers, with zeros behind; the records made of
--- these are those of the moves, and blank ones behind: by induction over the moves, two at a time. 9 is given by the same lengths, since the local list of 128 numbers
--- is long enough; then no record is written. An accepted text has a whole number of moves, 64 at most. Assumes nothing.
+-- Reading into records is reading into numbers. The starts and goals that a text gives stand by turns in
+-- front of 128 numbers, with zeros behind; the records made of these are those of the moves, and blank ones
+-- behind: by induction over the moves, two at a time. 9 is given by the same lengths, since the local list of
+-- 128 numbers is long enough; then no record is written. An accepted text has a whole number of moves, 64 at
+-- most. Assumes nothing.
 --     placed-filled    records made of moves with zeros behind
---     records-read     the promise of `read_job`, from that of `read_numbers` and from the records that are written
-use mathlib.Core.Path.{_≡_, refl, _∙_, ap}
+--     records-read     the promise of `read_job`, from that of `read_numbers` and from the records that are
+--                      written
+use mathlib.Core.Path.{_≡_, refl, sym, _∙_, ap}
 use mathlib.Core.Bool.{Bool, true, false}
 use mathlib.Core.List.{List, [], _∷_, _++_, append-nil}
 use Prim.Native.Nat.{ℕ, zero, suc, _+_, _*_, _-_, _≤_, _<_}
@@ -13,7 +16,9 @@ use borrow.Author.Tests.{le-ltb, lt-ltb, ltb-false}
 use lib.Dec.{ltb}
 use lib.ListN.{length, drop, replicate, length-replicate, drop-of-length-le}
 use Rattle.hall.specs.declared.Fault.the-variants.{ShortTable}
+use Rattle.hall.specs.declared.Job.{Job}
 use Rattle.hall.specs.Job.{carriers}
+use Rattle.hall.specs.Said.{Said}
 use Rattle.records.specs.declared.Record.{Record}
 use Rattle.records.specs.Table.{blank, fresh, placed}
 use Rattle.records.proofs.Lists.{two-more}
@@ -21,9 +26,11 @@ use Rattle.text.specs.declared.reader.Read.{Read}
 use Rattle.text.specs.Bytes.{pick, either}
 use Rattle.text.specs.Reading.{Reading, job, refusal, reading}
 use Rattle.text.specs.Left as numbers
-use Rattle.text.specs.Left.{filled}
+use Rattle.text.specs.Left.{saidRead, filled}
+use Rattle.text.proofs.Left.{filled-none}
 use Rattle.written.proofs.AcceptedTexts.{accepted-text}
-use Rattle.jobs.specs.Reading.{outcome, short, recordsOf, filledRecords, leftBy, readOutcome, ReadLeft, placedCount}
+use Rattle.jobs.specs.Reading.{recordsOutcome, recordsShort, recordsOf, filledRecords, leftRecords}
+use Rattle.jobs.specs.Reading.{recordsRead, ReadLeft, placedCount}
 
 -- ---- records made of moves
 
@@ -65,12 +72,12 @@ records-filled ms k rs two few h =
 abbrev zeros : List ℕ
 zeros = replicate 128 0
 
-short-same : (lanes records order : ℕ) → numbers.short lanes records (length zeros) order ≡ short lanes records order
-unfolding numbers.short short
+short-same : (lanes records order : ℕ) → numbers.short lanes records (length zeros) order ≡ recordsShort lanes records order
+unfolding numbers.short recordsShort
 short-same lanes records order = refl
 
-enough-records : (lanes records order : ℕ) → short lanes records order ≡ false → 64 ≤ records
-unfolding short
+enough-records : (lanes records order : ℕ) → recordsShort lanes records order ≡ false → 64 ≤ records
+unfolding recordsShort
 enough-records lanes records order e = cases (ltb lanes 8192) (ltb records 64) refl (ltb order 64) e
   where
     never : {B : Type 0} → true ≡ false → B
@@ -84,46 +91,73 @@ enough-records lanes records order e = cases (ltb lanes 8192) (ltb records 64) r
 -- how many records are written: none where a table is too short
 module _ (lanes records order : ℕ) where
   pub none-for-lanes : lanes < 8192 → 0 ≡ placedCount lanes records order
-  unfolding short
+  unfolding recordsShort
   none-for-lanes h = rw (lt-ltb lanes 8192 h)
 
   module _ (a : 8192 ≤ lanes) where
     pub none-for-records : records < 64 → 0 ≡ placedCount lanes records order
-    unfolding short
+    unfolding recordsShort
     none-for-records h = rw (le-ltb lanes 8192 a, lt-ltb records 64 h)
 
     module _ (b : 64 ≤ records) where
       pub none-for-order : order < 64 → 0 ≡ placedCount lanes records order
-      unfolding short
+      unfolding recordsShort
       none-for-order h = rw (le-ltb lanes 8192 a, le-ltb records 64 b, lt-ltb order 64 h)
 
       pub all-placed : 64 ≤ order → 64 ≡ placedCount lanes records order
-      unfolding short
+      unfolding recordsShort
       all-placed h = rw (le-ltb lanes 8192 a, le-ltb records 64 b, le-ltb order 64 h)
 
 -- ---- the answer with the records
 
 -- an outcome in numbers with the records of its moves
-with-records : {r s : Read} {l k m n o p : List ℕ} {rs qs : List Record} → numbers.outcome r l m o ≡ numbers.outcome s k n p → (m ≡ n → rs ≡ qs) → outcome r l rs o ≡ outcome s k qs p
-with-records e f = let g = f (λ i. e i .moves) in λ i. outcome (e i .answer) (e i .lanes) (g i) (e i .order)
+with-records : {r s : Said Job} {l k m n o p : List ℕ} {rs qs : List Record} → numbers.textOutcome r l m o ≡ numbers.textOutcome s k n p → (m ≡ n → rs ≡ qs) → recordsOutcome r l rs o ≡ recordsOutcome s k qs p
+with-records e f = let g = f (λ i. e i .moves) in λ i. recordsOutcome (e i .answer) (e i .lanes) (g i) (e i .order)
 
-module _ (text lanes : List ℕ) (records : List Record) (order : List ℕ) {r : Read} {lanes′ moves′ order′ : List ℕ} {records′ : List Record} where
-  left-read : (whole : Reading) → reading text ≡ whole → 64 ≤ length records → records′ ≡ placed 64 records moves′
-      → numbers.outcome r lanes′ moves′ order′ ≡ numbers.leftBy whole lanes zeros order → outcome r lanes′ records′ order′ ≡ leftBy whole lanes records order
-  unfolding numbers.leftBy leftBy
+module _ (text lanes : List ℕ) (records : List Record) (order : List ℕ) {lanes′ moves′ order′ : List ℕ}
+    {records′ : List Record} where
+  left-read : {s : Said Job} (whole : Reading) → reading text ≡ whole → 64 ≤ length records →
+      records′ ≡ placed 64 records moves′ →
+      numbers.textOutcome s lanes′ moves′ order′ ≡ numbers.leftReading whole lanes zeros order →
+      recordsOutcome s lanes′ records′ order′ ≡ leftRecords whole lanes records order
+  unfolding numbers.leftReading leftRecords
   left-read (job j) reads h p e =
       let fine = accepted-text text {j = j} reads .fine in
-      with-records e (λ m. p ∙ ap (λ (x : List ℕ). placed 64 records x) m ∙ records-filled (j .moves) (carriers j) records (fine .moves-paired) (fine .few-carriers) h)
-  left-read (refusal fault line) reads h p e = with-records e (λ m. p ∙ ap (λ (x : List ℕ). placed 64 records x) m ∙ records-filled [] 0 records refl (omega arith) h)
+      with-records e
+      (λ m.
+      p
+      ∙ ap (λ (x : List ℕ). placed 64 records x) m
+      ∙ records-filled (j .moves) (carriers j) records (fine .moves-paired) (fine .few-carriers) h)
+  left-read (refusal fault line) reads h p e =
+      let none = filled-none 128 zeros (omega (arith, length-replicate {A = ℕ} 128 0)) in
+      with-records e
+      (λ m.
+      p
+      ∙ ap (λ (x : List ℕ). placed 64 records x) (m ∙ sym none)
+      ∙ records-filled [] 0 records refl (omega arith) h)
 
-  pub records-read : numbers.outcome r lanes′ moves′ order′ ≡ numbers.readOutcome text lanes (length records) zeros order
-      → records′ ≡ placed (placedCount (length lanes) (length records) (length order)) records moves′ → ReadLeft text text lanes lanes′ records records′ order order′ r
-  unfolding numbers.readOutcome readOutcome
-  records-read e p = record { given = cases (short (length lanes) (length records) (length order)) refl (rw (short-same (length lanes) (length records) (length order)) at e) p; text-kept = refl }
+  pub records-read : (r : Read) →
+      numbers.textOutcome (saidRead r) lanes′ moves′ order′
+      ≡ numbers.readOutcome text lanes (length records) zeros order →
+      records′ ≡ placed (placedCount (length lanes) (length records) (length order)) records moves′ →
+      ReadLeft text text lanes lanes′ records records′ order order′ r
+  unfolding numbers.readOutcome recordsRead
+  records-read r e p = record {
+    given =
+        cases (recordsShort (length lanes) (length records) (length order)) refl
+        (rw (short-same (length lanes) (length records) (length order)) at e) p;
+    text-kept = refl;
+  }
     where
-      cases : (b : Bool) → short (length lanes) (length records) (length order) ≡ b
-          → numbers.outcome r lanes′ moves′ order′ ≡ pick b (numbers.outcome (numbers.refuse ShortTable 0) lanes zeros order) (numbers.leftBy (reading text) lanes zeros order)
-          → records′ ≡ placed (pick b 0 64) records moves′
-          → outcome r lanes′ records′ order′ ≡ pick b (outcome (numbers.refuse ShortTable 0) lanes records order) (leftBy (reading text) lanes records order)
+      cases : (b : Bool) → recordsShort (length lanes) (length records) (length order) ≡ b →
+          numbers.textOutcome (saidRead r) lanes′ moves′ order′
+          ≡ pick b (numbers.textOutcome (numbers.refuse ShortTable 0) lanes zeros order)
+          (numbers.leftReading (reading text) lanes zeros order) →
+          records′ ≡ placed (pick b 0 64) records moves′ →
+          recordsOutcome (saidRead r) lanes′ records′ order′
+          ≡ pick b (recordsOutcome (numbers.refuse ShortTable 0) lanes records order)
+          (leftRecords (reading text) lanes records order)
       cases true s e p = with-records e (λ m. p)
-      cases false s e p = left-read (reading text) refl (enough-records (length lanes) (length records) (length order) s) p e
+      cases false s e p =
+          left-read (reading text) refl
+          (enough-records (length lanes) (length records) (length order) s) p e

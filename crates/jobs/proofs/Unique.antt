@@ -1,6 +1,8 @@
--- One outcome fits each promise of this crate. Reading is an equation with one outcome. An accepted job has one plan, so one cost, one tick and one distance for each record,
--- and one table, since all other places are decided by what came in; a refusal is the first fault, and decides what is left. A job is not both accepted
--- and refused. The questions about one carrier are those of the crate asks. Lists that are only read are as they came. Assumes nothing.
+-- One outcome fits each promise of this crate. Reading is an equation with one outcome. An accepted job has
+-- one plan, so one cost, one tick and one distance for each record, and one table, since all other places are
+-- decided by what came in; a refusal is the first fault, and decides what is left. A job is not both accepted
+-- and refused. What is left of a house path is one, whatever question it answers (path's `left-unique`).
+-- Lists that are only read are as they came. Assumes nothing.
 --     read-job-unique, plan-unique, house-unique, judge-unique     one theorem for each public function
 use mathlib.Core.Path.{_≡_, refl, sym, _∙_, ap}
 use mathlib.Core.Bool.{true}
@@ -9,44 +11,56 @@ use Prim.Native.Nat.{ℕ, _≤_, _<_}
 use native.Mathlib.Omega.{arith}
 use lib.ListN.{length}
 use lib.Seq.{ext-getD}
-use Rattle.hall.specs.declared.Fault.{Fault}
-use Rattle.hall.specs.declared.Fault.the-variants.{ShortTable}
-use Rattle.hall.specs.declared.Refusal.{Refusal}
 use Rattle.hall.specs.declared.Checked.{Checked}
-use Rattle.hall.specs.Job.{Numbers, carriers}
-use Rattle.hall.specs.Refusals.{Checks, None}
-use Rattle.hall.specs.Left.{left-by}
+use Rattle.hall.specs.Limits.{nodeLimit, tableLength}
+use Rattle.hall.specs.Numbers.{numberOf}
+use Rattle.hall.specs.Floor.{Network}
+use Rattle.hall.specs.Job.{Numbers, carriers, start, goal}
+use Rattle.hall.specs.Stages.{None}
+use Rattle.hall.specs.Questions.{checksQuestion, houseOfJob, listOfJob}
+use Rattle.hall.specs.Left.{left}
 use Rattle.hall.specs.Plan.{tablesIn}
-use Rattle.hall.proofs.Refusals.{first-unique, judged-unique}
+use Rattle.hall.proofs.Numbers.{number-one-fault}
+use Rattle.hall.proofs.Stages.{first-unique, none-excludes, judged-unique}
+use Rattle.hall.proofs.Places.{none-asked}
 use Rattle.hall.proofs.Sound.{checks-of-none}
 use Rattle.hall.proofs.PlanLaws as plans
 use Rattle.hall.proofs.PlanLaws.{SamePlan}
 use Rattle.records.specs.declared.Record.{Record}
 use Rattle.records.specs.Table.{blank, recordAt}
 use Rattle.records.proofs.Laws.{moves-count}
-use Rattle.tables.specs.Filling.{Filled}
+use Rattle.tables.specs.Filling.{TableFilled}
 use Rattle.tables.proofs.Unique.{filling-unique}
 use Rattle.text.specs.declared.reader.Read.{Read}
+use Rattle.text.specs.Left.{saidRead}
+use Rattle.text.proofs.Left.{said-read-one}
 use Rattle.path.specs.declared.Housed.{Housed}
+use Rattle.path.specs.Paths.{Unfit}
+use Rattle.path.proofs.Unique.{left-unique}
 use Rattle.planner.specs.declared.Planned.{Planned}
 use Rattle.planner.specs.declared.Planned.the-variants.{Cost, Refused}
+use Rattle.planner.specs.Planning.{saidPlanned}
 use Rattle.planner.proofs.Outcome.{filling-served}
-use Rattle.asks.specs.Asked.{HouseAsked, ListAskedFaults}
-use Rattle.asks.proofs.Unique.{house-for-unique}
-use Rattle.jobs.specs.Job.{jobOf}
-use Rattle.jobs.specs.Reading.{Outcome, outcome, ReadLeft}
-use Rattle.jobs.specs.Planning.{PlanFaults, tickOf, Accepted, Refuses, Given, Planning}
-use Rattle.jobs.specs.Asking.{HouseAnswer, ListAnswer}
-use Rattle.jobs.proofs.Shortness.{none-as}
+use Rattle.jobs.specs.Job.{recordJob}
+use Rattle.jobs.specs.Reading.{RecordsOutcome, recordsOutcome, ReadLeft}
+use Rattle.jobs.specs.Planning.{recordQuestion, tickOf, RecordsPlanned, RecordsRefused, GivenRecords}
+use Rattle.jobs.specs.Planning.{RecordPlanning}
+use Rattle.jobs.specs.Asking.{RecordsKept, HouseOfRecords, ListOfRecords}
 
 -- ---- reading
 
-module _ (text lanes : List ℕ) (records : List Record) (order : List ℕ) (r s : Read) (t u l m : List ℕ) (rs qs : List Record) (o p : List ℕ) where
-  pub read-job-unique : ReadLeft text t lanes l records rs order o r → ReadLeft text u lanes m records qs order p s
-      → (r ≡ s) × (t ≡ u) × (l ≡ m) × (rs ≡ qs) × (o ≡ p)
+module _ (text lanes : List ℕ) (records : List Record) (order : List ℕ) (r s : Read) (t u l m : List ℕ)
+    (rs qs : List Record) (o p : List ℕ) where
+  pub read-job-unique : ReadLeft text t lanes l records rs order o r → ReadLeft text u lanes m records qs order p s →
+      (r ≡ s) × (t ≡ u) × (l ≡ m) × (rs ≡ qs) × (o ≡ p)
   read-job-unique a b =
-      let e : outcome r l rs o ≡ outcome s m qs p = a .given ∙ sym (b .given) in
-      (ap (λ (x : Outcome). x .answer) e, a .text-kept ∙ sym (b .text-kept), ap (λ (x : Outcome). x .lanes) e, ap (λ (x : Outcome). x .records) e, ap (λ (x : Outcome). x .order) e)
+      let e : recordsOutcome (saidRead r) l rs o ≡ recordsOutcome (saidRead s) m qs p = a .given ∙ sym (b .given) in (
+        said-read-one r s (ap (λ (x : RecordsOutcome). x .said) e),
+        a .text-kept ∙ sym (b .text-kept),
+        ap (λ (x : RecordsOutcome). x .lanes) e,
+        ap (λ (x : RecordsOutcome). x .records) e,
+        ap (λ (x : RecordsOutcome). x .order) e,
+      )
 
 -- ---- planning
 
@@ -54,26 +68,31 @@ same-record : {x y : Record} → x .start ≡ y .start → x .goal ≡ y .goal �
 same-record s g d t = λ i. record { start = s i; goal = g i; distance = d i; tick = t i }
 
 -- a job that is planned has no fault of the listed checks
-pub planned-sound : (j : Numbers) (table : List ℕ) → None (PlanFaults j table) → None (Checks j)
-planned-sound j table none = checks-of-none j (none-as j (λ n. ⊥) ⊥ (λ x. absurd x) none)
+pub planned-sound : (j : Numbers) (table : List ℕ) → None (recordQuestion j table) → None (checksQuestion j)
+planned-sound j table none = checks-of-none j (none-asked none .1)
 
-module _ (nodes : ℕ) (lanes : List ℕ) (records : List Record) (order table : List ℕ) where
+module _ (N : Network) (records : List Record) (order table : List ℕ) where
   abbrev j : Numbers
-  j = jobOf nodes lanes records order
+  j = recordJob N records order
 
   room : (a b : ℕ) → ¬ (a < b) → b ≤ a
   room a b h = omega arith
 
-  filled : {rs : List Record} {t : List ℕ} {c : ℕ} → Accepted j records rs table t c → Filled nodes lanes (j .moves) table t
+  filled : {rs : List Record} {t : List ℕ} {c : ℕ} → RecordsPlanned j records rs table t c → TableFilled N (j .moves) table t
   filled a = record {
-    served = filling-served j (planned-sound j table (a .no-fault)) (room (length table) 12288 (λ h. a .no-fault ShortTable 0 (refl, h)));
+    served =
+        filling-served j (planned-sound j table (a .no-fault))
+        (room (length table) tableLength (λ h. none-asked (a .no-fault) .0 h));
     true-distances = a .plan .true-distances;
     table-left = a .table-left;
   }
 
-  module _ (rs qs : List Record) (t u : List ℕ) (c d : ℕ) (a : Accepted j records rs table t c) (b : Accepted j records qs table u d) where
+  module _ (rs qs : List Record) (t u : List ℕ) (c d : ℕ) (a : RecordsPlanned j records rs table t c)
+      (b : RecordsPlanned j records qs table u d) where
     same-plan : SamePlan (carriers j) (tablesIn t) (tickOf rs) c (tablesIn u) (tickOf qs) d
-    same-plan = plans.plan-unique j (planned-sound j table (a .no-fault)) (tablesIn t) (tablesIn u) (tickOf rs) (tickOf qs) c d (a .plan) (b .plan)
+    same-plan =
+        plans.plan-unique j (planned-sound j table (a .no-fault)) (tablesIn t) (tablesIn u) (tickOf rs) (tickOf qs) c d
+        (a .plan) (b .plan)
 
     records-same : (i : ℕ) → i < length records → recordAt rs i ≡ recordAt qs i
     records-same i h =
@@ -83,50 +102,73 @@ module _ (nodes : ℕ) (lanes : List ℕ) (records : List Record) (order table :
         same-record (v .starts i h ∙ sym (w .starts i h)) (v .goals i h ∙ sym (w .goals i h))
         (v .distances i h ∙ same-plan .tables .sg i i k k ∙ sym (w .distances i h)) (same-plan .ticks i k)
 
-    accepted-unique : (c ≡ d) × (rs ≡ qs) × (t ≡ u)
-    accepted-unique = (
+    planned-unique : (c ≡ d) × (rs ≡ qs) × (t ≡ u)
+    planned-unique = (
       same-plan .costs,
-      ext-getD blank rs qs (a .records-left .as-many ∙ sym (b .records-left .as-many)) (λ i h. records-same i (rw (a .records-left .as-many) at h)),
-      filling-unique nodes lanes (j .moves) table true true t u (filled a) (filled b) .1,
+      ext-getD blank rs qs (a .records-left .as-many ∙ sym (b .records-left .as-many))
+          (λ i h. records-same i (rw (a .records-left .as-many) at h)),
+      filling-unique N (j .moves) table true true t u (filled a) (filled b) .1,
     )
 
-  refuses-unique : (rs qs : List Record) (t u : List ℕ) (r s : Refusal) → Refuses j records rs table t r → Refuses j records qs table u s → (r ≡ s) × (rs ≡ qs) × (t ≡ u)
-  refuses-unique rs qs t u r s a b =
+  refused-unique : (rs qs : List Record) (t u : List ℕ) (n p m q : ℕ) →
+      RecordsRefused j records rs table t n p → RecordsRefused j records qs table u m q →
+      ((n ≡ m) × (p ≡ q)) × (rs ≡ qs) × (t ≡ u)
+  refused-unique rs qs t u n p m q a b =
       let e = first-unique (a .first) (b .first) in (
-        (λ i. record { fault = e .0 i; place = e .1 i }),
+        e,
         a .records-kept ∙ sym (b .records-kept),
-        a .table-left ∙ ap (λ (f : Fault). left-by f 12288 table) (e .0) ∙ sym (b .table-left),
+        a .table-left ∙ ap (λ (k : ℕ). left k tableLength table) (e .0) ∙ sym (b .table-left),
       )
 
-  given-unique : (rs qs : List Record) (t u : List ℕ) (r s : Planned) → Given j records rs table t r → Given j records qs table u s → (r ≡ s) × (rs ≡ qs) × (t ≡ u)
-  given-unique rs qs t u (Cost c) (Cost d) a b = let e = accepted-unique rs qs t u c d a b in (ap Cost (e .0), e .1, e .2)
-  given-unique rs qs t u (Cost c) (Refused s) a b = absurd (a .no-fault (s .fault) (s .place) (b .first .holds))
-  given-unique rs qs t u (Refused r) (Cost d) a b = absurd (b .no-fault (r .fault) (r .place) (a .first .holds))
-  given-unique rs qs t u (Refused r) (Refused s) a b = let e = refuses-unique rs qs t u r s a b in (ap Refused (e .0), e .1, e .2)
+  given-unique : (rs qs : List Record) (t u : List ℕ) (r s : Planned) →
+      GivenRecords j records rs table t (saidPlanned r) → GivenRecords j records qs table u (saidPlanned s) →
+      (r ≡ s) × (rs ≡ qs) × (t ≡ u)
+  given-unique rs qs t u (Cost c) (Cost d) a b =
+      let e = planned-unique rs qs t u c d a b in (ap Cost (e .0), e .1, e .2)
+  given-unique rs qs t u (Cost c) (Refused s) a b = absurd (none-excludes (b .first) (a .no-fault))
+  given-unique rs qs t u (Refused r) (Cost d) a b = absurd (none-excludes (a .first) (b .no-fault))
+  given-unique rs qs t u (Refused r) (Refused s) a b =
+      let e = refused-unique rs qs t u (numberOf (r .fault)) (r .place) (numberOf (s .fault)) (s .place) a b in
+      let same = number-one-fault (r .fault) (s .fault) (e .0 .0) in
+      (ap Refused (λ i. record { fault = same i; place = e .0 .1 i }), e .1, e .2)
 
-  pub plan-unique : (r s : Planned) (l m : List ℕ) (rs qs : List Record) (o p t u : List ℕ) → Planning nodes lanes l records rs order o table t r
-      → Planning nodes lanes m records qs order p table u s → (r ≡ s) × (l ≡ m) × (rs ≡ qs) × (o ≡ p) × (t ≡ u)
-  plan-unique r s l m rs qs o p t u a b =
+  pub plan-unique : (r s : Planned) (M O : Network) (rs qs : List Record) (o p t u : List ℕ) →
+      RecordPlanning N M records rs order o table t r → RecordPlanning N O records qs order p table u s →
+      (r ≡ s) × (M ≡ O) × (rs ≡ qs) × (o ≡ p) × (t ≡ u)
+  plan-unique r s M O rs qs o p t u a b =
       let e = given-unique rs qs t u r s (a .given) (b .given) in
-      (e .0, a .lanes-kept ∙ sym (b .lanes-kept), e .1, a .order-kept ∙ sym (b .order-kept), e .2)
+      (e .0, a .network-kept ∙ sym (b .network-kept), e .1, a .order-kept ∙ sym (b .order-kept), e .2)
 
 -- ---- one carrier's path
 
-module _ (nodes : ℕ) (lanes : List ℕ) (records : List Record) (order : List ℕ) (n : ℕ) (l m : List ℕ) (rs qs : List Record) (o p : List ℕ) where
-  pub house-unique : (path t u : List ℕ) (r s : Housed) → HouseAnswer nodes lanes l records rs order o n path t r → HouseAnswer nodes lanes m records qs order p n path u s
-      → (r ≡ s) × (l ≡ m) × (rs ≡ qs) × (o ≡ p) × (t ≡ u)
-  house-unique path t u r s a b =
-      let first : HouseAsked (jobOf nodes lanes records order) (jobOf nodes lanes records order) n path t r = record { given = a .given; job-kept = refl } in
-      let second : HouseAsked (jobOf nodes lanes records order) (jobOf nodes lanes records order) n path u s = record { given = b .given; job-kept = refl } in
-      let e = house-for-unique first second in
-      (e .0, a .lanes-kept ∙ sym (b .lanes-kept), a .records-kept ∙ sym (b .records-kept), a .order-kept ∙ sym (b .order-kept), e .1)
-
-  pub judge-unique : (list t u : List ℕ) (r s : Checked) → ListAnswer nodes lanes l records rs order o n list t r → ListAnswer nodes lanes m records qs order p n list u s
-      → (r ≡ s) × (l ≡ m) × (rs ≡ qs) × (o ≡ p) × (t ≡ u)
-  judge-unique list t u r s a b = (
-    judged-unique (ListAskedFaults (jobOf nodes lanes records order) n list) r s (a .judged) (b .judged),
-    a .lanes-kept ∙ sym (b .lanes-kept),
+module _ (N : Network) (records : List Record) (order : List ℕ) (c : ℕ) (M O : Network) (rs qs : List Record)
+    (o p : List ℕ) where
+  -- what is only read is as it came
+  kept-same : RecordsKept N M records rs order o → RecordsKept N O records qs order p →
+      (M ≡ O) × (rs ≡ qs) × (o ≡ p)
+  kept-same a b = (
+    a .network-kept ∙ sym (b .network-kept),
     a .records-kept ∙ sym (b .records-kept),
     a .order-kept ∙ sym (b .order-kept),
-    a .list-kept ∙ sym (b .list-kept),
   )
+
+  pub house-unique : (path t u : List ℕ) (r s : Housed) →
+      HouseOfRecords N M records rs order o c path t r → HouseOfRecords N O records qs order p c path u s →
+      ((r ≡ s) × (t ≡ u)) × ((M ≡ O) × (rs ≡ qs) × (o ≡ p))
+  house-unique path t u r s a b =
+      let j = recordJob N records order in (
+        left-unique (houseOfJob (length path < nodeLimit) j c) N (start j c) (goal j c) path t u r s (a .given) (b .given),
+        kept-same (a .kept) (b .kept),
+      )
+
+  pub judge-unique : (list t u : List ℕ) (r s : Checked) →
+      ListOfRecords N M records rs order o c list t r → ListOfRecords N O records qs order p c list u s →
+      ((r ≡ s) × (t ≡ u)) × ((M ≡ O) × (rs ≡ qs) × (o ≡ p))
+  judge-unique list t u r s a b =
+      let j = recordJob N records order in (
+        (
+          judged-unique (listOfJob j c (Unfit N (start j c) (goal j c) list)) r s (a .given) (b .given),
+          a .list-kept ∙ sym (b .list-kept),
+        ),
+        kept-same (a .kept) (b .kept),
+      )

@@ -1,4 +1,4 @@
--- What the questions with a whole job promise. Each file opens with a dictionary in the page's words.
+-- What the questions with a whole job promise. Each file opens with a dictionary in the words of the rules.
 pub mod Job
 pub mod Reading
 pub mod Planning

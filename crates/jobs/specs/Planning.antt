@@ -1,35 +1,46 @@
--- What planning a job promises, for every input (page 01, "Refusal numbers" and "What is left"): "Planning changes only distance and tick in the records of the
--- job, and fills a distance table of 12,288 numbers". A list with ′ is as the question leaves it.
---     PlanFaults    the faults of planning: 9, "a lent table is shorter than its least length", then those of the job, 2 to 8
---     tickOf        a carrier's start tick in its record
---     RecordsLeft   "Planning changes only distance and tick": as many records, each with its start and goal, and with the carrier's own distance of the table
---     Accepted      the job has no fault; the table and the ticks in the records are its plan, with this cost; unused places of the table are zero
---     Refuses       the refusal is the first fault. It "leaves records and order as they came and zeroes the table"; 9 "leaves all tables untouched"
---     Given         what is left with an answer: a cost is accepted, a refusal refuses
---     Planning      the promise: that, and "Lists that are only read never change"
+-- What planning a job promises, for every input, with the records lent as one list (rules 8.23 and 9.7 to
+-- 9.9): it changes only distance and tick in the records of the job, and fills the distance table. A network
+-- or a list with ′ is as the question leaves it.
+--     recordQuestion   the stages of planning: 9, if the table has fewer than 12,288 numbers, then those of
+--                      the job, 2 to 8
+--     tickOf           a carrier's start tick in its record
+--     distanceOf       a carrier's distance in its record
+--     RecordsLeft      as many records, each with its start and goal as it came, and with the carrier's own
+--                      distance of the table
+--     RecordsPlanned   the job has no fault; the table and the ticks in the records are its plan, with this
+--                      cost; unused places of the table are zero
+--     RecordsRefused   the refusal is the first fault. It leaves the records as they came; 9 leaves the table
+--                      too, and any other zeroes it
+--     GivenRecords     what is left with what is said: accepted or refused so
+--     RecordPlanning   the promise: that, and network and order are as they came
 use mathlib.Core.Path.{_≡_}
 use mathlib.Core.List.{List}
 use Prim.Native.Nat.{ℕ, _<_}
 use lib.ListN.{length}
-use Rattle.hall.specs.declared.Fault.{Fault}
-use Rattle.hall.specs.declared.Refusal.{Refusal}
+use Rattle.hall.specs.Limits.{tableLength}
+use Rattle.hall.specs.Floor.{Network}
 use Rattle.hall.specs.Job.{Numbers, carriers}
-use Rattle.hall.specs.Refusals.{Faults, First, None}
-use Rattle.hall.specs.Left.{left-by}
+use Rattle.hall.specs.Stages.{Question, First, None}
+use Rattle.hall.specs.Said.{Said, accepted, refused}
+use Rattle.hall.specs.Questions.{planning}
+use Rattle.hall.specs.Left.{left}
 use Rattle.hall.specs.Ticks.{Tables, own}
 use Rattle.hall.specs.Plan.{Plan, tablesIn}
 use Rattle.tables.specs.Filling.{TableLeft}
 use Rattle.planner.specs.declared.Planned.{Planned}
-use Rattle.planner.specs.declared.Planned.the-variants.{Cost, Refused}
+use Rattle.planner.specs.Planning.{saidPlanned}
 use Rattle.records.specs.declared.Record.{Record}
 use Rattle.records.specs.Table.{recordAt}
-use Rattle.jobs.specs.Job.{jobOf}
+use Rattle.jobs.specs.Job.{recordJob}
 
-abbrev pub PlanFaults : Numbers → (table : List ℕ) → Fault → ℕ → Type 0
-PlanFaults j table = Faults (length table < 12288) j (λ n. ⊥) ⊥
+abbrev pub recordQuestion : Numbers → (table : List ℕ) → Question
+recordQuestion j table = planning (length table < tableLength) j
 
 abbrev pub tickOf : List Record → ℕ → ℕ
 tickOf records i = recordAt records i .tick
+
+abbrev pub distanceOf : List Record → ℕ → ℕ
+distanceOf records i = recordAt records i .distance
 
 pub record RecordsLeft (t : Tables) (records records′ : List Record) : Type 0 where
   pub as-many : length records′ ≡ length records
@@ -37,22 +48,28 @@ pub record RecordsLeft (t : Tables) (records records′ : List Record) : Type 0 
   pub goals : (i : ℕ) → i < length records → recordAt records′ i .goal ≡ recordAt records i .goal
   pub distances : (i : ℕ) → i < length records → recordAt records′ i .distance ≡ own t i
 
-pub record Accepted (j : Numbers) (records records′ : List Record) (table table′ : List ℕ) (cost : ℕ) : Type 0 where
-  pub no-fault : None (PlanFaults j table)
+pub record RecordsPlanned (j : Numbers) (records records′ : List Record) (table table′ : List ℕ) (cost : ℕ)
+    : Type 0 where
+  pub no-fault : None (recordQuestion j table)
   pub plan : Plan j (tablesIn table′) (tickOf records′) cost
   pub records-left : RecordsLeft (tablesIn table′) records records′
   pub table-left : TableLeft (carriers j) table table′
 
-pub record Refuses (j : Numbers) (records records′ : List Record) (table table′ : List ℕ) (r : Refusal) : Type 0 where
-  pub first : First (PlanFaults j table) (r .fault) (r .place)
+pub record RecordsRefused (j : Numbers) (records records′ : List Record) (table table′ : List ℕ) (n p : ℕ)
+    : Type 0 where
+  pub first : First (recordQuestion j table) n p
   pub records-kept : records′ ≡ records
-  pub table-left : table′ ≡ left-by (r .fault) 12288 table
+  pub table-left : table′ ≡ left n tableLength table
 
-abbrev pub Given : (j : Numbers) (records records′ : List Record) (table table′ : List ℕ) → Planned → Type 0
-Given j records records′ table table′ (Cost c) = Accepted j records records′ table table′ c
-Given j records records′ table table′ (Refused r) = Refuses j records records′ table table′ r
+abbrev pub GivenRecords : (j : Numbers) (records records′ : List Record) (table table′ : List ℕ) → Said ℕ
+    → Type 0
+GivenRecords j records records′ table table′ (accepted cost) =
+    RecordsPlanned j records records′ table table′ cost
+GivenRecords j records records′ table table′ (refused n p) =
+    RecordsRefused j records records′ table table′ n p
 
-pub record Planning (nodes : ℕ) (lanes lanes′ : List ℕ) (records records′ : List Record) (order order′ table table′ : List ℕ) (r : Planned) : Type 0 where
-  pub given : Given (jobOf nodes lanes records order) records records′ table table′ r
-  pub lanes-kept : lanes′ ≡ lanes
+pub record RecordPlanning (N N′ : Network) (records records′ : List Record) (order order′ : List ℕ)
+    (table table′ : List ℕ) (r : Planned) : Type 0 where
+  pub given : GivenRecords (recordJob N records order) records records′ table table′ (saidPlanned r)
+  pub network-kept : N′ ≡ N
   pub order-kept : order′ ≡ order

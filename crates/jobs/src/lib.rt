@@ -1,20 +1,21 @@
-// Every question that takes a whole job, with the carriers' records lent as one list by carrier number: reading a job text into lent tables, planning, and the
-// questions about one carrier's path. Each takes every input. These functions are thin: they carry the records to a local list of numbers and ask a function on
-// numbers; reading and planning then write its answer into the records, the other two only read them. What is decided, and how many records are written,
-// is decided by the functions on numbers.
+// Every question that takes a whole job, with the carriers' records lent as one list by carrier number:
+// reading a job text into lent tables, planning, and the questions about one carrier's path. Each takes every
+// input. These functions are thin: they carry the records to a local list of numbers and ask a function on
+// numbers; reading and planning then write its answer into the records, the other two only read them. What is
+// decided, and how many records are written, is decided by the functions on numbers.
 //
-// Working memory here: 260 bytes for the moves of at most 65 records, 384 for the distances and ticks of 64. A job of more than 64 records is refused
-// whatever the moves are, so the 65th tells enough. Below, a distance walk takes 22,528 bytes: the chains of the lanes, the list of waiting nodes and a row.
+// Working memory here: 260 bytes for the moves of at most 65 records, 384 for the distances and ticks of 64.
+// A job of more than 64 records is refused whatever the moves are, so the 65th tells enough.
 ghost use mathlib.Core.Path.{_≡_};
 ghost use Prim.Native.Nat.{_*_, min};
 ghost use denote.Ref.{now};
-ghost use Rattle.hall.specs.Refusals.{Judged};
-ghost use Rattle.planner.specs.Planning.{job, lent, Planning};
-ghost use Rattle.asks.specs.Asked.{HouseAskedGiven, ListAskedFaults};
+ghost use Rattle.hall.specs.Floor.{networkOf};
+ghost use Rattle.hall.specs.Job.{jobOf};
+ghost use Rattle.planner.specs.Planning.{saidPlanned, lent, Planning};
 ghost use Rattle.jobs.specs.Reading.{ReadLeft, placedCount};
-ghost use Rattle.jobs.specs.Planning.{Planning as JobPlanning};
-ghost use Rattle.jobs.specs.Asking.{HouseAnswer, ListAnswer};
-ghost use Rattle.jobs.specs.Loading.{loaded, storedCount};
+ghost use Rattle.jobs.specs.Planning.{RecordPlanning};
+ghost use Rattle.jobs.specs.Asking.{HouseGiven, ListGiven, HouseOfRecords, ListOfRecords};
+ghost use Rattle.jobs.specs.Loading.{crowd, loaded, storedCount};
 use asks::house_for;
 use asks::judge_for;
 use hall::Carrier;
@@ -30,13 +31,18 @@ use records::store_times;
 use text::reader::Read;
 use text::reader::read_numbers;
 
+// As many records are loaded as a job can have, and one more: it tells that there are too many.
+const LOADED: usize = Job::CARRIERS + 1;
+
+const LOADED_NUMBERS: usize = 2 * LOADED;
+
 // ---- reading
 
 // How many records reading writes, by the lengths of the lent tables: none if one of them is too short.
 fn placed_count(lanes: usize, records: usize, order: usize) -> usize
     ensures { λ r. ⌜ r ≡ placedCount lanes records order ⌝ }
 {
-    if lanes < 8192 {
+    if lanes < Job::LANE_NUMBERS {
         return 0;
     }
     if records < Job::CARRIERS {
@@ -48,7 +54,8 @@ fn placed_count(lanes: usize, records: usize, order: usize) -> usize
     Job::CARRIERS
 }
 
-// Reads a job text: the lanes' numbers go to `lanes`, the carriers' starts and goals to the first 64 `records`, with distance and tick 0, the order to `order`.
+// Reads a job text: the lanes' numbers go to `lanes`, the carriers' starts and goals to the first 64
+// `records`, with distance and tick 0, the order to `order`.
 pub fn read_job(text: &[u8], lanes: &mut [u16], records: &mut [Record], order: &mut [u16]) -> Read
     ensures { λ r. ⌜ ReadLeft
         (now (text .entry)) (now (text .exit))
@@ -56,7 +63,7 @@ pub fn read_job(text: &[u8], lanes: &mut [u16], records: &mut [Record], order: &
         (now (records .entry)) (now (records .exit))
         (now (order .entry)) (now (order .exit)) r ⌝ }
 {
-    let mut moves = [0u16; 128];
+    let mut moves = [0u16; Job::MOVE_NUMBERS];
     let answer = read_numbers(text, lanes, records.len(), &mut moves, order);
     let count = placed_count(lanes.len(), records.len(), order.len());
     store_moves(records, count, &moves);
@@ -77,9 +84,9 @@ fn fewer(a: usize, b: usize) -> usize
 
 // How many of `room` numbers are those of the moves of that many records, of 65 at most.
 fn numbers_of(records: usize, room: usize) -> usize
-    ensures { λ r. ⌜ r ≡ min (2 * min records 65) room ⌝ }
+    ensures { λ r. ⌜ r ≡ min (2 * min records crowd) room ⌝ }
 {
-    let most = fewer(records, 65);
+    let most = fewer(records, LOADED);
     fewer(2 * most, room)
 }
 
@@ -95,9 +102,13 @@ fn plan_loaded(
     ticks: &mut [u32],
 ) -> Planned
     ensures { λ r. ⌜ Planning
-        (job nodes (now (lanes .entry)) (loaded records (now (moves .entry))) (now (order .entry)))
+        (jobOf
+        (networkOf nodes (now (lanes .entry)))
+        (loaded records (now (moves .entry)))
+        (now (order .entry)))
         (lent (now (table .entry)) (now (distances .entry)) (now (ticks .entry)))
-        (lent (now (table .exit)) (now (distances .exit)) (now (ticks .exit))) r ⌝ }
+        (lent (now (table .exit)) (now (distances .exit)) (now (ticks .exit)))
+        (saidPlanned r) ⌝ }
 {
     let used = numbers_of(records, moves.len());
     plan_moves(nodes, lanes, &moves[..used], order, table, distances, ticks)
@@ -113,7 +124,8 @@ fn stored_count(answer: Planned, records: usize) -> usize
     }
 }
 
-// Plans a job: fills the distance table and, in the records, each carrier's distance and start tick; answers the cost, or the first refusal.
+// Plans a job: fills the distance table and, in the records, each carrier's distance and start tick; answers
+// the cost, or the first refusal.
 pub fn plan(
     nodes: usize,
     lanes: &[u16],
@@ -121,15 +133,16 @@ pub fn plan(
     order: &[u16],
     table: &mut [u16],
 ) -> Planned
-    ensures { λ r. ⌜ JobPlanning nodes
-        (now (lanes .entry)) (now (lanes .exit))
+    ensures { λ r. ⌜ RecordPlanning
+        (networkOf nodes (now (lanes .entry))) (networkOf nodes (now (lanes .exit)))
         (now (records .entry)) (now (records .exit))
         (now (order .entry)) (now (order .exit))
-        (now (table .entry)) (now (table .exit)) r ⌝ }
+        (now (table .entry)) (now (table .exit))
+        r ⌝ }
 {
-    let mut moves = [0u16; 130];
-    let mut distances = [0u16; 64];
-    let mut ticks = [0u32; 64];
+    let mut moves = [0u16; LOADED_NUMBERS];
+    let mut distances = [0u16; Job::CARRIERS];
+    let mut ticks = [0u32; Job::CARRIERS];
     let n = records.len();
     load_moves(records, &mut moves);
     let answer = plan_loaded(
@@ -159,15 +172,21 @@ fn house_loaded(
     carrier: Carrier,
     path: &mut [u16],
 ) -> Housed
-    ensures { λ r. ⌜ HouseAskedGiven
-        (job nodes (now (lanes .entry)) (loaded records (now (moves .entry))) (now (order .entry)))
-        (carrier .0) (now (path .entry)) (now (path .exit)) r ⌝ }
+    ensures { λ r. ⌜ HouseGiven
+        (jobOf
+        (networkOf nodes (now (lanes .entry)))
+        (loaded records (now (moves .entry)))
+        (now (order .entry)))
+        (carrier .0)
+        (now (path .entry)) (now (path .exit))
+        r ⌝ }
 {
     let used = numbers_of(records, moves.len());
     house_for(nodes, lanes, &moves[..used], order, carrier, path)
 }
 
-// The house path of one carrier of a job, into a list of 1,024 places at least; answers how many nodes it has, or the first refusal.
+// The house path of one carrier of a job, into a list of 1,024 places at least; answers how many nodes it
+// has, or the first refusal.
 pub fn house(
     nodes: usize,
     lanes: &[u16],
@@ -176,13 +195,15 @@ pub fn house(
     carrier: Carrier,
     path: &mut [u16],
 ) -> Housed
-    ensures { λ r. ⌜ HouseAnswer nodes
-        (now (lanes .entry)) (now (lanes .exit))
+    ensures { λ r. ⌜ HouseOfRecords
+        (networkOf nodes (now (lanes .entry))) (networkOf nodes (now (lanes .exit)))
         (now (records .entry)) (now (records .exit))
         (now (order .entry)) (now (order .exit))
-        (carrier .0) (now (path .entry)) (now (path .exit)) r ⌝ }
+        (carrier .0)
+        (now (path .entry)) (now (path .exit))
+        r ⌝ }
 {
-    let mut moves = [0u16; 130];
+    let mut moves = [0u16; LOADED_NUMBERS];
     load_moves(records, &mut moves);
     house_loaded(nodes, lanes, records.len(), &moves, order, carrier, path)
 }
@@ -197,9 +218,14 @@ fn judge_loaded(
     carrier: Carrier,
     list: &[u16],
 ) -> Checked
-    ensures { λ r. ⌜ Judged (ListAskedFaults
-        (job nodes (now (lanes .entry)) (loaded records (now (moves .entry))) (now (order .entry)))
-        (carrier .0) (now (list .entry))) r ⌝ }
+    ensures { λ r. ⌜ ListGiven
+        (jobOf
+        (networkOf nodes (now (lanes .entry)))
+        (loaded records (now (moves .entry)))
+        (now (order .entry)))
+        (carrier .0)
+        (now (list .entry))
+        r ⌝ }
 {
     let used = numbers_of(records, moves.len());
     judge_for(nodes, lanes, &moves[..used], order, carrier, list)
@@ -214,13 +240,15 @@ pub fn judge(
     carrier: Carrier,
     list: &[u16],
 ) -> Checked
-    ensures { λ r. ⌜ ListAnswer nodes
-        (now (lanes .entry)) (now (lanes .exit))
+    ensures { λ r. ⌜ ListOfRecords
+        (networkOf nodes (now (lanes .entry))) (networkOf nodes (now (lanes .exit)))
         (now (records .entry)) (now (records .exit))
         (now (order .entry)) (now (order .exit))
-        (carrier .0) (now (list .entry)) (now (list .exit)) r ⌝ }
+        (carrier .0)
+        (now (list .entry)) (now (list .exit))
+        r ⌝ }
 {
-    let mut moves = [0u16; 130];
+    let mut moves = [0u16; LOADED_NUMBERS];
     load_moves(records, &mut moves);
     judge_loaded(nodes, lanes, records.len(), &moves, order, carrier, list)
 }

@@ -1,2 +1,3 @@
-// Lane networks from numbers, two a lane and two a move: whether a network, the moves on it and an order over them are sound.
+// Lane networks from numbers, two a lane and two a move: whether a network, the moves on it and an order over
+// them are sound.
 pub mod checks;

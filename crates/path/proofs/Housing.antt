@@ -1,40 +1,64 @@
--- The answer to the question for the house path, put together: after a refusal other than 9 the list is zero throughout its least length; an accepted path was laid into a list
--- of zeros, so that zeros stand past its end. Places beyond the least length are those of the list that came in both. Assumes nothing.
-use mathlib.Core.Path.{_≡_, sym, _∙_, ap}
-use mathlib.Core.List.{List}
+-- The answer to a question for a house path, put together, whatever is asked behind 9: a short list is
+-- refused before anything else and stays as it came; a question that lacks 9 refuses with another number,
+-- which leaves the least length zero; an accepted path was laid into a list of zeros, so that zeros stand
+-- past its end. Places beyond the least length are those of the list that came. Assumes nothing.
+use mathlib.Core.Path.{_≡_, refl, sym, _∙_, ap}
+use mathlib.Core.List.{List, _∷_}
 use Prim.Native.Nat.{ℕ, _≤_, _<_}
 use native.Mathlib.Omega.{arith}
 use lib.ListN.{length, getD}
+use Rattle.hall.specs.declared.Fault.the-variants.{ShortTable}
 use Rattle.hall.specs.declared.Refusal.{Refusal}
 use Rattle.hall.specs.declared.Checked.{Checked}
-use Rattle.hall.specs.declared.Checked.the-variants.{Sound, Refused}
-use Rattle.hall.specs.Job.{oneMove}
-use Rattle.hall.specs.Refusals.{First, None, Judged}
-use Rattle.hall.specs.Left.{zeroed, left-by}
-use Rattle.hall.proofs.Left.{zeroed-length, zeroed-below, zeroed-beyond}
-use Rattle.path.specs.Paths.{MoveFaults, HouseFaults, House}
+use Rattle.hall.specs.declared.Checked.the-variants.{Refused}
+use Rattle.hall.specs.Limits.{nodeLimit}
+use Rattle.hall.specs.Floor.{Network}
+use Rattle.hall.specs.Numbers.{numberOf}
+use Rattle.hall.specs.Stages.{Question, None}
+use Rattle.hall.specs.Said.{accepted, refused, saidRefusal, Judged}
+use Rattle.hall.specs.Questions.{shortTable}
+use Rattle.hall.specs.Left.{zeroed}
+use Rattle.hall.proofs.Compose.{refused-first}
+use Rattle.hall.proofs.Places.{asked-here, asked-later, asked-clear}
+use Rattle.hall.proofs.Left.{zeroed-length, zeroed-below, zeroed-beyond, NotNine, Among, left-zeroed}
+use Rattle.path.specs.Paths.{House, HouseLeft}
 use Rattle.path.specs.Steps.{Laid}
-use Rattle.path.proofs.Questions.{judged-after-9, others-zero}
 
-module _ (nodes : ℕ) (lanes : List ℕ) (start goal : ℕ) (path : List ℕ) (room : 1024 ≤ length path) where
-  not-short : ¬ (length path < 1024)
-  not-short h = omega arith
+-- ---- a question q behind 9
 
-  pub house-refused : {c : Checked} {r : Refusal} {path′ : List ℕ} → c ≡ Refused r → Judged (MoveFaults nodes lanes start goal) c → path′ ≡ zeroed 1024 path
-      → First (HouseFaults nodes lanes start goal path) (r .fault) (r .place) × (path′ ≡ left-by (r .fault) 1024 path)
-  house-refused {r = r} told judged e =
-      let first : First (MoveFaults nodes lanes start goal) (r .fault) (r .place) = rw told at judged in (
-        judged-after-9 (oneMove nodes lanes start goal) (λ n. ⊥) (length path < 1024) ⊥ not-short (Refused r) first,
-        e ∙ sym (others-zero (oneMove nodes lanes start goal) (λ n. ⊥) (length path < 1024) ⊥ (r .fault) (r .place) (first .holds) 1024 path),
-      )
+module _ (q : Question) (N : Network) (s g : ℕ) (path : List ℕ) where
+  pub left-short : length path < nodeLimit
+      → HouseLeft (shortTable (length path < nodeLimit) ∷ q) N s g path path (refused (numberOf ShortTable) 0)
+  left-short short = (asked-here short, refl)
 
-  pub house-laid : None (MoveFaults nodes lanes start goal) → {zeros path′ : List ℕ} {count : ℕ} → zeros ≡ zeroed 1024 path → Laid nodes lanes start goal zeros path′ count → House nodes lanes start goal path path′ count
-  house-laid none e l = record {
-    no-fault = judged-after-9 (oneMove nodes lanes start goal) (λ n. ⊥) (length path < 1024) ⊥ not-short Sound none;
-    d = l .d;
-    nodes-of-it = l .nodes-of-it;
-    is-house-path = l .is-house-path;
-    same-length = l .same-length ∙ ap length e ∙ zeroed-length 1024 path;
-    zeros = λ k h m. l .beyond k h ∙ ap (λ (t : List ℕ). getD t k 0) e ∙ zeroed-below 1024 path k m;
-    beyond = λ k h. l .beyond k (omega (arith, l .fits)) ∙ ap (λ (t : List ℕ). getD t k 0) e ∙ zeroed-beyond 1024 path k h;
-  }
+  module _ (room : nodeLimit ≤ length path) where
+    not-short : ¬ (length path < nodeLimit)
+    not-short h = omega arith
+
+    pub left-refused : {c : Checked} {r : Refusal} {path′ : List ℕ} →
+        Among NotNine q → c ≡ Refused r → Judged q c → path′ ≡ zeroed nodeLimit path
+        → HouseLeft (shortTable (length path < nodeLimit) ∷ q) N s g path path′ (saidRefusal r)
+    left-refused others told judged e =
+        let first = refused-first q told judged in
+        (asked-later not-short first, e ∙ sym (left-zeroed others first nodeLimit path))
+
+    pub left-accepted : {path′ : List ℕ} {count : ℕ} →
+        None q → House N s g path path′ count
+        → HouseLeft (shortTable (length path < nodeLimit) ∷ q) N s g path path′ (accepted count)
+    left-accepted none house = (asked-clear not-short none, house)
+
+-- ---- a path laid into zeros
+
+pub house-laid : {N : Network} {s g : ℕ} (path : List ℕ) {zeros path′ : List ℕ} {count : ℕ} →
+    zeros ≡ zeroed nodeLimit path → Laid N s g zeros path′ count → House N s g path path′ count
+house-laid path e l = record {
+  d = l .d;
+  nodes-of-it = l .nodes-of-it;
+  is-house-path = l .is-house-path;
+  same-length = l .same-length ∙ ap length e ∙ zeroed-length nodeLimit path;
+  zeros = λ k h m. l .beyond k h ∙ ap (λ (t : List ℕ). getD t k 0) e ∙ zeroed-below nodeLimit path k m;
+  beyond = λ k h.
+      l .beyond k (omega (arith, l .fits))
+      ∙ ap (λ (t : List ℕ). getD t k 0) e
+      ∙ zeroed-beyond nodeLimit path k h;
+}

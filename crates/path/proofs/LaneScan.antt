@@ -1,45 +1,41 @@
--- The lanes of a list one after the other, as a loop passes them: a lane at place i of the list joins the two numbers that stand there, either way round. If none of
--- the lanes passed joins a and b, and the one at place i does not, none before i + 2 does; with all of them passed, no lane joins a and b. Assumes nothing.
+-- The search for a lane that joins two nodes, as a loop passes the lanes: if none of the lanes passed joins a
+-- and b, and the one at place i does not, either way round, none before i + 2 does (hall's `lane-before`);
+-- with all of them passed, no lane joins a and b. Assumes nothing.
 --     Passed    none of the lanes before place i of the list joins a and b
 use mathlib.Core.Path.{_≡_}
-use mathlib.Core.Logic.{_⊎_, inl, inr}
 use mathlib.Core.List.{List}
-use Prim.Native.Nat.{ℕ, _+_, _*_, _/_, _%_, _≤_, _<_}
+use Prim.Native.Nat.{ℕ, _+_, _*_, _%_, _≤_, _<_}
 use native.Mathlib.Decide.{decLt}
 use native.Mathlib.Omega.{arith}
 use lib.ListN.{length, getD}
-use Rattle.hall.specs.Floor.{Lane, lower, higher}
+use Rattle.hall.specs.Floor.{Lane}
+use Rattle.hall.proofs.LaneList.{LaneBefore, earlier, forth, back, lane-before}
 
-half : (i : ℕ) → i % 2 ≡ 0 → 2 * (i / 2) ≡ i
-half i e = omega arith
+module _ (lanes : List ℕ) (a b : ℕ) where
+  pub Passed : ℕ → Type 0
+  Passed i = (l : Lane lanes a b) → i ≤ 2 * l .k
 
-module _ (lanes : List ℕ) where
-  module _ {a b : ℕ} (i : ℕ) (even : i % 2 ≡ 0) (inside : i + 1 < length lanes) where
-    pub lane-at : getD lanes i 0 ≡ a → getD lanes (i + 1) 0 ≡ b → Lane lanes a b
-    lane-at x y = record { k = i / 2; inside = omega arith; ends = inl (rw (half i even) (x, y)) }
-
-    pub lane-back-at : getD lanes i 0 ≡ b → getD lanes (i + 1) 0 ≡ a → Lane lanes a b
-    lane-back-at x y = record { k = i / 2; inside = omega arith; ends = inr (rw (half i even) (x, y)) }
-
-  pub Passed : ℕ → ℕ → ℕ → Type 0
-  Passed a b i = (l : Lane lanes a b) → i ≤ 2 * l .k
-
-  pub passed-none : (a b : ℕ) → Passed a b 0
+  pub passed-none : Passed 0
   unfolding Passed
-  passed-none a b l = omega arith
+  passed-none l = omega arith
 
-  pub passed-more : (a b i : ℕ) → i % 2 ≡ 0 → ((getD lanes i 0 ≡ a) × (getD lanes (i + 1) 0 ≡ b) → ⊥) → ((getD lanes i 0 ≡ b) × (getD lanes (i + 1) 0 ≡ a) → ⊥) → Passed a b i → Passed a b (i + 2)
-  unfolding Passed
-  passed-more a b i even f g before l = cases (decLt i (2 * l .k)) (l .ends)
-    where
-      h : i ≤ 2 * l .k
-      h = before l
+  module _ (i : ℕ) where
+    pub passed-more : i % 2 ≡ 0
+        → ((getD lanes i 0 ≡ a) × (getD lanes (i + 1) 0 ≡ b) → ⊥)
+        → ((getD lanes i 0 ≡ b) × (getD lanes (i + 1) 0 ≡ a) → ⊥)
+        → Passed i → Passed (i + 2)
+    unfolding Passed
+    passed-more even f g before l = side (decLt (2 * l .k) (i + 2))
+      where
+        not-here : LaneBefore lanes a b i (l .k) → ⊥
+        not-here (earlier h) = omega (arith, before l)
+        not-here (forth x y) = f (x, y)
+        not-here (back x y) = g (x, y)
 
-      cases : Dec (i < 2 * l .k) → ((lower lanes (l .k) ≡ a) × (higher lanes (l .k) ≡ b)) ⊎ ((lower lanes (l .k) ≡ b) × (higher lanes (l .k) ≡ a)) → i + 2 ≤ 2 * l .k
-      cases (yes m) e = omega arith
-      cases (no m) (inl e) = absurd (let q : 2 * l .k ≡ i = omega (arith, before l) in f (rw q at e))
-      cases (no m) (inr e) = absurd (let q : 2 * l .k ≡ i = omega (arith, before l) in g (rw q at e))
+        side : Dec (2 * l .k < i + 2) → i + 2 ≤ 2 * l .k
+        side (yes h) = absurd (not-here (lane-before lanes i even l h))
+        side (no h) = omega arith
 
-  pub passed-all : (a b i : ℕ) → Passed a b i → length lanes ≤ i + 1 → Lane lanes a b → ⊥
-  unfolding Passed
-  passed-all a b i p e l = omega (arith, p l, l .inside)
+    pub passed-all : Passed i → length lanes ≤ i + 1 → ¬ Lane lanes a b
+    unfolding Passed
+    passed-all p e l = omega (arith, p l, l .inside)

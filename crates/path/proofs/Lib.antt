@@ -1,6 +1,6 @@
--- Laws of the questions about paths: the faults of a question in their order; what a sound move is like; lanes, neighbours and the house path as the
--- loops go over them; a list against the terms of a shortest path. Last what the answers owe to each other: agreement, and one answer for each input.
-pub mod Questions
+-- Laws of the questions about paths: what a sound move is like; neighbours and the house path as the loops go
+-- over them; a list against the terms of a shortest path. Last what the answers owe to each other: agreement,
+-- one answer for each input, and what each answer tells exactly.
 pub mod SoundMove
 pub mod LaneScan
 pub mod NextNode
@@ -10,3 +10,4 @@ pub mod Listed
 pub mod Housing
 pub mod Agree
 pub mod Unique
+pub mod Exactly

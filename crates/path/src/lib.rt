@@ -1,9 +1,11 @@
-// Paths of one move on a lane network (page 01, "Paths"): the house path, the question about one list, and the choice between two lists. Any network, move and
-// list may be put. A network or a move that is at fault is refused with the page's number and place; the choice answers an empty part then. All three go
-// by the distances to the goal, so that a walk of the right form which is not shortest never passes.
+// Paths of one move on a lane network (rules 6.1 to 6.8): the house path, the question about one list, and
+// the choice between two lists. Any network, move and list may be put. A network or a move that is at fault
+// is refused with its number and place; the choice answers an empty part then. All three go by the distances
+// to the goal, so that a walk of the right form which is not shortest never passes.
 //
-// Cost: one distance walk a question (two for the choice); the house path looks at each lane once for each of its nodes, and the question about one list at the
-// lanes up to the one that it needs for each of its steps, if the list has the right length.
+// Cost: one distance walk a question (two for the choice); the house path looks at each lane once for each of
+// its nodes, and the question about one list at the lanes up to the one that it needs for each of its steps,
+// if the list has the right length.
 use hall::Checked;
 use hall::Fault;
 use hall::Job;
@@ -12,10 +14,11 @@ ghost use mathlib.Core.Path.{_≡_};
 ghost use Prim.Native.Nat.{_≤_};
 ghost use lib.ListN.{length};
 ghost use denote.Ref.{now};
-ghost use Rattle.hall.specs.Floor.{Lane};
+ghost use Rattle.hall.specs.Limits.{nodeLimit};
+ghost use Rattle.hall.specs.Floor.{Lane, networkOf};
 ghost use Rattle.hall.specs.Rule.{Answers};
 ghost use Rattle.path.specs.Paths.{HouseAnswer, ListAnswer, ChoiceAnswer};
-ghost use Rattle.path.specs.Steps.{Downhill, Reached, Nearer, LowestNext, Laid, Walks};
+ghost use Rattle.path.specs.Steps.{Downhill, MoveReached, Nearer, LowestNext, Laid, Walks};
 
 // What the question for the house path answers: how many nodes the path has, or why there is none.
 pub enum Housed {
@@ -25,8 +28,8 @@ pub enum Housed {
 
 // The checks 2, 3, 4, 5 and 8 of a move. Where none holds, the row has each node's distance to the goal.
 fn check_reached(nodes: usize, lanes: &[u16], start: u16, goal: u16, row: &mut [u16]) -> Checked
-    requires { ⌜ length (now row) ≡ 1024 ⌝ }
-    ensures { λ r. ⌜ Reached nodes (now (lanes .entry)) start goal (now (row .exit)) r ⌝ }
+    requires { ⌜ length (now row) ≡ nodeLimit ⌝ }
+    ensures { λ r. ⌜ MoveReached (networkOf nodes (now (lanes .entry))) start goal (now (row .exit)) r ⌝ }
 {
     let checked = network::checks::check_move(nodes, lanes, start, goal);
     if let Checked::Refused(_) = checked {
@@ -35,7 +38,7 @@ fn check_reached(nodes: usize, lanes: &[u16], start: u16, goal: u16, row: &mut [
     walk::distances(nodes, lanes, goal, row);
     let here = start as usize;
     let distance = row[here];
-    if distance == 65535 {
+    if distance == Job::NO_WALK {
         return Checked::Refused(Refusal {
             fault: Fault::Unreachable,
             place: 0,
@@ -44,7 +47,8 @@ fn check_reached(nodes: usize, lanes: &[u16], start: u16, goal: u16, row: &mut [
     Checked::Sound
 }
 
-// One end of a lane, seen from node u: if the lane leads from u to a node b at the wanted distance, the lower of b and the best so far.
+// One end of a lane, seen from node u: if the lane leads from u to a node b at the wanted distance, the lower
+// of b and the best so far.
 fn nearer(nodes: usize, row: &[u16], u: u16, a: u16, b: u16, wanted: u16, best: u16) -> u16
     requires { ⌜ nodes ≤ length (now row) ⌝ }
     ensures { λ r. ⌜ Nearer nodes (now (row .entry)) u a b wanted best r ⌝ }
@@ -66,13 +70,14 @@ fn nearer(nodes: usize, row: &[u16], u: u16, a: u16, b: u16, wanted: u16, best: 
     b
 }
 
-// The lowest-numbered neighbour of u at the wanted distance from the goal, 65,535 if there is none.
+// The lowest-numbered neighbour of u at the wanted distance from the goal, the mark for "no walk" if there is
+// none.
 fn next_node(nodes: usize, lanes: &[u16], row: &[u16], u: u16, wanted: u16) -> u16
     requires { ⌜ nodes ≤ length (now row) ⌝ }
-    ensures { λ r. ⌜ LowestNext nodes (now (lanes .entry)) (now (row .entry)) u wanted r ⌝ }
+    ensures { λ r. ⌜ LowestNext (networkOf nodes (now (lanes .entry))) (now (row .entry)) u wanted r ⌝ }
 {
     let count = lanes.len();
-    let mut best: u16 = 65535;
+    let mut best: u16 = Job::NO_WALK;
     let mut i: usize = 0;
     while i + 1 < count {
         let a = lanes[i];
@@ -84,10 +89,17 @@ fn next_node(nodes: usize, lanes: &[u16], row: &[u16], u: u16, wanted: u16) -> u
     best
 }
 
-// The house path, from the start on until the goal; how many nodes it has. Places past its end are not touched.
+// The house path, from the start on until the goal; how many nodes it has. Places past its end are not
+// touched.
 fn lay(nodes: usize, lanes: &[u16], row: &[u16], start: u16, goal: u16, path: &mut [u16]) -> usize
-    requires { ⌜ Downhill nodes (now lanes) start goal (now row) × (1024 ≤ length (now path)) ⌝ }
-    ensures { λ r. ⌜ Laid nodes (now (lanes .entry)) start goal (now (path .entry)) (now (path .exit)) r ⌝ }
+    requires { ⌜
+        Downhill (networkOf nodes (now lanes)) start goal (now row)
+        × (nodeLimit ≤ length (now path)) ⌝ }
+    ensures { λ r. ⌜ Laid
+        (networkOf nodes (now (lanes .entry)))
+        start goal
+        (now (path .entry)) (now (path .exit))
+        r ⌝ }
 {
     let here = start as usize;
     let mut left = row[here];
@@ -105,7 +117,11 @@ fn lay(nodes: usize, lanes: &[u16], row: &[u16], start: u16, goal: u16, path: &m
 
 // The house path of a move, into a list of 1,024 places at least; past its end they become zero.
 pub fn house(nodes: usize, lanes: &[u16], start: u16, goal: u16, path: &mut [u16]) -> Housed
-    ensures { λ r. ⌜ HouseAnswer nodes (now (lanes .entry)) (now (lanes .exit)) start goal (now (path .entry)) (now (path .exit)) r ⌝ }
+    ensures { λ r. ⌜ HouseAnswer
+        (networkOf nodes (now (lanes .entry))) (networkOf nodes (now (lanes .exit)))
+        start goal
+        (now (path .entry)) (now (path .exit))
+        r ⌝ }
 {
     let room = path.len();
     if room < Job::NODES {
@@ -115,7 +131,7 @@ pub fn house(nodes: usize, lanes: &[u16], start: u16, goal: u16, path: &mut [u16
         });
     }
     hall::zero::zero_first(path, Job::NODES);
-    let mut row: [u16; 1024] = [0; 1024];
+    let mut row: [u16; Job::NODES] = [0; Job::NODES];
     let reached = check_reached(nodes, lanes, start, goal, &mut row);
     if let Checked::Refused(refusal) = reached {
         return Housed::Refused(refusal);
@@ -176,11 +192,16 @@ fn walks(lanes: &[u16], start: u16, goal: u16, list: &[u16]) -> bool
     true
 }
 
-// Whether a proposed list is a shortest path of a move. It is refused with 11 exactly if it is none, whoever made it.
+// Whether a proposed list is a shortest path of a move. It is refused with 11 exactly if it is none, whoever
+// made it.
 pub fn judge(nodes: usize, lanes: &[u16], start: u16, goal: u16, list: &[u16]) -> Checked
-    ensures { λ r. ⌜ ListAnswer nodes (now (lanes .entry)) (now (lanes .exit)) start goal (now (list .entry)) (now (list .exit)) r ⌝ }
+    ensures { λ r. ⌜ ListAnswer
+        (networkOf nodes (now (lanes .entry))) (networkOf nodes (now (lanes .exit)))
+        start goal
+        (now (list .entry)) (now (list .exit))
+        r ⌝ }
 {
-    let mut row: [u16; 1024] = [0; 1024];
+    let mut row: [u16; Job::NODES] = [0; Job::NODES];
     let reached = check_reached(nodes, lanes, start, goal, &mut row);
     if let Checked::Refused(_) = reached {
         return reached;
@@ -200,7 +221,8 @@ pub fn judge(nodes: usize, lanes: &[u16], start: u16, goal: u16, list: &[u16]) -
     })
 }
 
-// The drive shop's own list if that is a shortest path of the move, otherwise the spare if that is one, otherwise an empty part. The answer is the lent list itself.
+// Takes the own list where it is a shortest path of the move, the spare where only that is one, and where
+// neither is, an empty part. The answer is the lent list itself (rules 6.5 and 6.6).
 pub fn choose<'a>(
     nodes: usize,
     lanes: &[u16],
@@ -209,7 +231,12 @@ pub fn choose<'a>(
     own: &'a [u16],
     spare: &'a [u16],
 ) -> &'a [u16]
-    ensures { λ r. ⌜ ChoiceAnswer nodes (now (lanes .entry)) (now (lanes .exit)) start goal (own .entry) (own .exit) (spare .entry) (spare .exit) r ⌝ }
+    ensures { λ r. ⌜ ChoiceAnswer
+        (networkOf nodes (now (lanes .entry))) (networkOf nodes (now (lanes .exit)))
+        start goal
+        (own .entry) (own .exit)
+        (spare .entry) (spare .exit)
+        r ⌝ }
 {
     let first = judge(nodes, lanes, start, goal, own);
     if let Checked::Sound = first {

@@ -1,32 +1,34 @@
-// Planning a job from numbers: the distance table, the carriers' distances and start ticks, and the cost; or the first refusal with its place. Every
-// input is taken. The faults are looked for in the page's order, 9 first, which leaves all as it came; any other refusal leaves the least lengths of the
-// lent lists zero, and what lies beyond as it came.
+// Planning a job from numbers (rule 8.23): the distance table, the carriers' distances and start ticks, and
+// the cost; or the first refusal with its place. Every input is taken. 9 comes first and leaves all as it
+// came; any other refusal leaves the least lengths of the lent lists zero, and what lies beyond as it came.
 //
-// Work at the limit of 64 carriers: 128 distance walks (see crate tables) and at most some 90,000 pair tests (see crate ticks).
+// Work at the limit of 64 carriers: 128 distance walks (see crate tables) and at most some 90,000 pair tests
+// (see crate ticks).
 ghost use mathlib.Core.Path.{_≡_};
 ghost use Prim.Native.Nat.{_≤_};
 ghost use lib.ListN.{length};
 ghost use denote.Ref.{now};
 ghost use Rattle.hall.specs.Left.{zeroed};
-ghost use Rattle.hall.specs.Refusals.{Checks, None};
+ghost use Rattle.hall.specs.Limits.{carrierLimit, tableLength};
+ghost use Rattle.hall.specs.Floor.{networkOf};
+ghost use Rattle.hall.specs.Job.{jobOf};
+ghost use Rattle.hall.specs.Stages.{None};
+ghost use Rattle.hall.specs.Questions.{checksQuestion};
 ghost use Rattle.hall.specs.Rule.{Answers};
-ghost use Rattle.ticks.specs.Timing.{Served};
-ghost use Rattle.planner.specs.Planning.{job, lent, Short, Planning};
-ghost use Rattle.planner.specs.Steps.{Cleared, OwnCopied};
-ghost use Rattle.planner.specs.Steps as steps;
+ghost use Rattle.ticks.specs.Timing.{TicksServed};
+ghost use Rattle.planner.specs.Planning.{saidPlanned, lent, Short, Planning};
+ghost use Rattle.planner.specs.Steps.{Cleared, OwnCopied, TimedAll};
 use hall::Checked;
 use hall::Fault;
 use hall::Job;
 use hall::Refusal;
 use hall::zero::zero_first;
 use network::checks::check_job;
+use tables::Reach;
 use tables::fill;
 use tables::first_unreached;
 use ticks::Timed;
 use ticks::start_ticks;
-
-// The least length of the distance table: three blocks, each with a place for every two carriers.
-pub const TABLE: usize = 12288;
 
 // What planning answers.
 pub enum Planned {
@@ -48,7 +50,7 @@ fn refused(fault: Fault, place: usize) -> Planned
 fn short(table: usize, distances: usize, ticks: usize) -> bool
     ensures { λ r. ⌜ Answers r (Short table distances ticks) ⌝ }
 {
-    if table < TABLE {
+    if table < Job::TABLE {
         return true;
     }
     if distances < Job::CARRIERS {
@@ -62,8 +64,8 @@ fn short(table: usize, distances: usize, ticks: usize) -> bool
 
 // The first 64 ticks become zero.
 fn zero_ticks(ticks: &mut [u32])
-    requires { ⌜ 64 ≤ length (now ticks) ⌝ }
-    ensures { λ _. ⌜ now (ticks .exit) ≡ zeroed 64 (now (ticks .entry)) ⌝ }
+    requires { ⌜ carrierLimit ≤ length (now ticks) ⌝ }
+    ensures { λ _. ⌜ now (ticks .exit) ≡ zeroed carrierLimit (now (ticks .entry)) ⌝ }
 {
     let mut i: usize = 0;
     while i < Job::CARRIERS {
@@ -74,13 +76,19 @@ fn zero_ticks(ticks: &mut [u32])
 
 // Copies each carrier's own distance out of the table.
 fn copy_own(table: &[u16], carriers: usize, distances: &mut [u16])
-    requires { ⌜ (12288 ≤ length (now table)) × (carriers ≤ 64) × (64 ≤ length (now distances)) ⌝ }
-    ensures { λ _. ⌜ OwnCopied (now (table .entry)) carriers (now (distances .entry)) (now (distances .exit)) ⌝ }
+    requires { ⌜
+        (tableLength ≤ length (now table))
+        × (carriers ≤ carrierLimit)
+        × (carrierLimit ≤ length (now distances)) ⌝ }
+    ensures { λ _. ⌜ OwnCopied
+        (now (table .entry))
+        carriers
+        (now (distances .entry)) (now (distances .exit)) ⌝ }
 {
     let mut i: usize = 0;
     while i < carriers {
-        let at = 64 * i + i;
-        let own = table[4096 + at];
+        let at = Job::CARRIERS * i + i;
+        let own = table[Job::BLOCK + at];
         distances[i] = own;
         i += 1;
     }
@@ -88,8 +96,14 @@ fn copy_own(table: &[u16], carriers: usize, distances: &mut [u16])
 
 // The carriers' distances and start ticks by a table, and the cost.
 fn time_all(table: &[u16], order: &[u16], distances: &mut [u16], ticks: &mut [u32]) -> u32
-    requires { ⌜ Served (now table) (now order) (length (now ticks)) × (64 ≤ length (now distances)) ⌝ }
-    ensures { λ r. ⌜ steps.Timed (now (table .entry)) (now (order .entry)) (now (distances .entry)) (now (distances .exit)) (now (ticks .entry)) (now (ticks .exit)) r ⌝ }
+    requires { ⌜
+        TicksServed (now table) (now order) (length (now ticks))
+        × (carrierLimit ≤ length (now distances)) ⌝ }
+    ensures { λ r. ⌜ TimedAll
+        (now (table .entry)) (now (order .entry))
+        (now (distances .entry)) (now (distances .exit))
+        (now (ticks .entry)) (now (ticks .exit))
+        r ⌝ }
 {
     let carriers = order.len();
     copy_own(table, carriers, distances);
@@ -111,18 +125,27 @@ fn plan_sound(
     distances: &mut [u16],
     ticks: &mut [u32],
 ) -> Planned
-    requires { ⌜ Cleared (lent (now table) (now distances) (now ticks)) × None (Checks (job nodes (now lanes) (now moves) (now order))) ⌝ }
-    ensures { λ r. ⌜ Planning (job nodes (now (lanes .entry)) (now (moves .entry)) (now (order .entry))) (lent (now (table .entry)) (now (distances .entry)) (now (ticks .entry))) (lent (now (table .exit)) (now (distances .exit)) (now (ticks .exit))) r ⌝ }
+    requires { ⌜
+        Cleared (lent (now table) (now distances) (now ticks))
+        × None (checksQuestion (jobOf (networkOf nodes (now lanes)) (now moves) (now order))) ⌝ }
+    ensures { λ r. ⌜ Planning
+        (jobOf (networkOf nodes (now (lanes .entry))) (now (moves .entry)) (now (order .entry)))
+        (lent (now (table .entry)) (now (distances .entry)) (now (ticks .entry)))
+        (lent (now (table .exit)) (now (distances .exit)) (now (ticks .exit)))
+        (saidPlanned r) ⌝ }
 {
     let carriers = moves.len() / 2;
     fill(nodes, lanes, moves, table);
-    let lost = first_unreached(table, carriers);
-    if lost < carriers {
-        zero_first(table, TABLE);
-        return refused(Fault::Unreachable, lost);
+    match first_unreached(table, carriers) {
+        Reach::Lost(carrier) => {
+            zero_first(table, Job::TABLE);
+            refused(Fault::Unreachable, carrier.0 as usize)
+        }
+        Reach::All => {
+            let cost = time_all(table, order, distances, ticks);
+            Planned::Cost(cost)
+        }
     }
-    let cost = time_all(table, order, distances, ticks);
-    Planned::Cost(cost)
 }
 
 // Over lent lists whose least lengths are zero: 2 to 7, then the rest.
@@ -136,7 +159,11 @@ fn plan_cleared(
     ticks: &mut [u32],
 ) -> Planned
     requires { ⌜ Cleared (lent (now table) (now distances) (now ticks)) ⌝ }
-    ensures { λ r. ⌜ Planning (job nodes (now (lanes .entry)) (now (moves .entry)) (now (order .entry))) (lent (now (table .entry)) (now (distances .entry)) (now (ticks .entry))) (lent (now (table .exit)) (now (distances .exit)) (now (ticks .exit))) r ⌝ }
+    ensures { λ r. ⌜ Planning
+        (jobOf (networkOf nodes (now (lanes .entry))) (now (moves .entry)) (now (order .entry)))
+        (lent (now (table .entry)) (now (distances .entry)) (now (ticks .entry)))
+        (lent (now (table .exit)) (now (distances .exit)) (now (ticks .exit)))
+        (saidPlanned r) ⌝ }
 {
     let judged = check_job(nodes, lanes, moves, order);
     if let Checked::Refused(refusal) = judged {
@@ -145,8 +172,8 @@ fn plan_cleared(
     plan_sound(nodes, lanes, moves, order, table, distances, ticks)
 }
 
-// The plan of a job: its table, its carriers' distances and start ticks, and its cost; or the first refusal. A move is two numbers: an odd last number of
-// `moves` is no move and is ignored.
+// The plan of a job: its table, its carriers' distances and start ticks, and its cost; or the first refusal.
+// A move is two numbers: an odd last number of `moves` is no move and is ignored.
 pub fn plan_moves(
     nodes: usize,
     lanes: &[u16],
@@ -156,12 +183,16 @@ pub fn plan_moves(
     distances: &mut [u16],
     ticks: &mut [u32],
 ) -> Planned
-    ensures { λ r. ⌜ Planning (job nodes (now (lanes .entry)) (now (moves .entry)) (now (order .entry))) (lent (now (table .entry)) (now (distances .entry)) (now (ticks .entry))) (lent (now (table .exit)) (now (distances .exit)) (now (ticks .exit))) r ⌝ }
+    ensures { λ r. ⌜ Planning
+        (jobOf (networkOf nodes (now (lanes .entry))) (now (moves .entry)) (now (order .entry)))
+        (lent (now (table .entry)) (now (distances .entry)) (now (ticks .entry)))
+        (lent (now (table .exit)) (now (distances .exit)) (now (ticks .exit)))
+        (saidPlanned r) ⌝ }
 {
     if short(table.len(), distances.len(), ticks.len()) {
         return refused(Fault::ShortTable, 0);
     }
-    zero_first(table, TABLE);
+    zero_first(table, Job::TABLE);
     zero_first(distances, Job::CARRIERS);
     zero_ticks(ticks);
     plan_cleared(nodes, lanes, moves, order, table, distances, ticks)

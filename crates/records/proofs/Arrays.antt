@@ -1,7 +1,13 @@
--- Steps of `Types/Kit.antt`'s calculus for a walk that has a local array and lends it as a slice. Nothing here speaks of records: every crate with such a walk imports it.
---     array-opens      [the array's cell, written whole; …]  →  [its elements, side by side; …].        array-shuts      the way back
---     repeated-is      `[x; n]` is the array of n times x.        puts (`Walk.antt`) brings a cell that is shut back home
---     lends-array      [the elements; …]  →  [own of a `&ν mut [T]`; ν's token; what comes back later; …], for a new lifetime ν; n is the array's length.        unlends-array    [ν's token; what comes back later; what the callee says of the last list zs; …]  →  [the elements zs; …]
+-- Steps of `Types/Kit.antt`'s calculus for a walk that has a local array and lends it as a slice. Nothing
+-- here speaks of records: every crate with such a walk imports it.
+--     array-opens      [the array's cell, written whole; …]  →  [its elements, side by side; …]
+--     array-shuts      the way back
+--     repeated-is      `[x; n]` is the array of n times x
+--     puts             brings a cell that is shut back home (`Walk.antt`)
+--     lends-array      [the elements; …] → [own of a `&ν mut [T]`; ν's token; what comes back later; …], for
+--                      a new lifetime ν; n is the array's length
+--     unlends-array    [ν's token; what comes back later; what the callee says of the last list zs; …] → [the
+--                      elements zs; …]
 --     shares-array, unshares-array     the same for a `&ν [T]`: the list comes back as it was
 -- Assumes `Given`.
 use mathlib.Core.Path.{_≡_, refl, sym, subst}

@@ -1,12 +1,21 @@
--- Steps of `Types/Kit.antt`'s calculus for a walk that calls functions and lends them its own `&mut` slices. Nothing here speaks of records: every crate with such a walk imports it.
---     lends-mut        [own of a `&κ mut [T]`; κ's token; …]  →  [own of a `&ν mut [T]` on the same list; ν's token; what comes back later; …], for a new lifetime ν: it is lent again, `&mut *s`
---     unlends-mut      [ν's token; what comes back later; what the callee says of the last list zs; …]  →  [own of the `&κ mut [T]` at zs; κ's token; …]
+-- Steps of `Types/Kit.antt`'s calculus for a walk that calls functions and lends them its own `&mut` slices.
+-- Nothing here speaks of records: every crate with such a walk imports it.
+--     lends-mut        [own of a `&κ mut [T]`; κ's token; …] → [own of a `&ν mut [T]` on the same list; ν's
+--                      token; what comes back later; …], for a new lifetime ν: it is lent again, `&mut *s`
+--     unlends-mut      [ν's token; what comes back later; what the callee says of the last list zs; …] → [own
+--                      of the `&κ mut [T]` at zs; κ's token; …]
 --     shares-mut, unshares-mut     the same for `&*s`: a `&ν [T]`, and the list comes back as it was
---     hands-shr        [own of a `&[T]`; …]  →  [the same; the same; …]: a `&` is Copy, so it is handed on at its own lifetime, with its token, and the other copy is kept
---     adds             [X; P; …]  →  [P, X; …]: what a parameter owns, or a token, is put before those that follow it.        parts    [P, X; …]  →  [X; P; …], the way back after the call.        passes    a number is put before them
+--     hands-shr        [own of a `&[T]`; …] → [the same; the same; …]: a `&` is Copy, so it is handed on at
+--                      its own lifetime, with its token, and the other copy is kept
+--     adds             [X; P; …] → [P, X; …]: what a parameter owns, or a token, is put before those that
+--                      follow it
+--     parts            [P, X; …]  →  [X; P; …], the way back after the call
+--     passes           a number is put before them
 --     tokF             the tokens of a callee's lifetimes, as one formula
---     calls-spec       a call of a function that meets its contract:  [the tokens; what the parameters own; …]  →  [the tokens; what is said of the last values; …], with what it ensures and the result's relation in hand.
---                      The operands are read where the first two entries are one, so each position is one less there
+--     calls-spec       a call of a function that meets its contract: [the tokens; what the parameters own; …]
+--                      → [the tokens; what is said of the last values; …], with what it ensures and the
+--                      result's relation in hand. The operands are read where the first two entries are one,
+--                      so each position is one less there
 -- Assumes `Given`.
 use mathlib.Core.Path.{_≡_, refl, sym, _∙_, ap, subst}
 use Prim.Native.Nat.{ℕ, zero, suc, _<_, _^_}

@@ -1,7 +1,7 @@
--- The lists that the loops over records go through, as functions of how many records are done. `timed` and `placed` are such functions
--- themselves; `loadTo` stops `moved` after i records. Each list has the length that it began with, one more turn is one more store
--- (two, of a move), and after as many turns as `min` allows the list is the whole one: by induction over the lists, side by side.
--- Assumes nothing.
+-- The lists that the loops over records go through, as functions of how many records are done. `timed` and
+-- `placed` are such functions themselves; `loadTo` stops `moved` after i records. Each list has the length
+-- that it began with, one more turn is one more store (two, of a move), and after as many turns as `min`
+-- allows the list is the whole one: by induction over the lists, side by side. Assumes nothing.
 --     loadTo i                                   the moves once i records are loaded
 --     load-length, timed-length, placed-length   no list changes its length
 --     load-step, timed-step, placed-step         one more record
@@ -43,18 +43,22 @@ load-length (suc i) (r ∷ rs) (a ∷ []) = refl
 load-length (suc i) (r ∷ rs) (a ∷ b ∷ ms) = ap (λ (n : ℕ). suc (suc n)) (load-length i rs ms)
 
 pub load-step : (i : ℕ) (rs : List Record) (ms : List ℕ) → i < length rs → 2 * i + 1 < length ms
-    → set (set (loadTo i rs ms) (2 * i) (recordAt rs i .start)) (2 * i + 1) (recordAt rs i .goal) ≡ loadTo (suc i) rs ms
+    → set (set (loadTo i rs ms) (2 * i) (recordAt rs i .start)) (2 * i + 1) (recordAt rs i .goal)
+    ≡ loadTo (suc i) rs ms
 load-step i [] ms l m = absurd (not-suc-le-zero l)
 load-step i (r ∷ rs) [] l m = absurd (not-suc-le-zero m)
 load-step i (r ∷ rs) (a ∷ []) l m = absurd (let x : ⊥ = omega arith in x)
 load-step zero (r ∷ rs) (a ∷ b ∷ ms) l m = refl
-load-step (suc i) (r ∷ rs) (a ∷ b ∷ ms) l m = rw (three-more i, two-more i) (ap (λ (t : List ℕ). r .start ∷ r .goal ∷ t) (load-step i rs ms (omega arith) (omega arith)))
+load-step (suc i) (r ∷ rs) (a ∷ b ∷ ms) l m =
+    rw (three-more i, two-more i)
+    (ap (λ (t : List ℕ). r .start ∷ r .goal ∷ t) (load-step i rs ms (omega arith) (omega arith)))
 
 pub load-all : (rs : List Record) (ms : List ℕ) → loadTo (min (length rs) (length ms / 2)) rs ms ≡ moved rs ms
 load-all [] ms = rw zero-min
 load-all (r ∷ rs) [] = rw min-zero
 load-all (r ∷ rs) (a ∷ []) = rw min-zero
-load-all (r ∷ rs) (a ∷ b ∷ ms) = rw (half-more (length ms), suc-min-suc) (ap (λ (t : List ℕ). r .start ∷ r .goal ∷ t) (load-all rs ms))
+load-all (r ∷ rs) (a ∷ b ∷ ms) =
+    rw (half-more (length ms), suc-min-suc) (ap (λ (t : List ℕ). r .start ∷ r .goal ∷ t) (load-all rs ms))
 
 -- ---- times that are stored
 
@@ -66,19 +70,25 @@ timed-length (suc n) (r ∷ rs) (d ∷ ds) [] = refl
 timed-length (suc n) (r ∷ rs) (d ∷ ds) (k ∷ ks) = ap suc (timed-length n rs ds ks)
 
 pub timed-step : (i : ℕ) (rs : List Record) (ds ks : List ℕ) → i < length rs → i < length ds → i < length ks
-    → set (timed i rs ds ks) i (withTimes (recordAt (timed i rs ds ks) i) (getD ds i 0) (getD ks i 0)) ≡ timed (suc i) rs ds ks
+    → set (timed i rs ds ks) i (withTimes (recordAt (timed i rs ds ks) i) (getD ds i 0) (getD ks i 0))
+    ≡ timed (suc i) rs ds ks
 timed-step i [] ds ks l m n = absurd (not-suc-le-zero l)
 timed-step i (r ∷ rs) [] ks l m n = absurd (not-suc-le-zero m)
 timed-step i (r ∷ rs) (d ∷ ds) [] l m n = absurd (not-suc-le-zero n)
 timed-step zero (r ∷ rs) (d ∷ ds) (k ∷ ks) l m n = refl
-timed-step (suc i) (r ∷ rs) (d ∷ ds) (k ∷ ks) l m n = ap (λ (t : List Record). withTimes r d k ∷ t) (timed-step i rs ds ks (omega arith) (omega arith) (omega arith))
+timed-step (suc i) (r ∷ rs) (d ∷ ds) (k ∷ ks) l m n =
+    ap (λ (t : List Record). withTimes r d k ∷ t)
+    (timed-step i rs ds ks (omega arith) (omega arith) (omega arith))
 
-pub timed-all : (n : ℕ) (rs : List Record) (ds ks : List ℕ) → timed (min n (min (length rs) (min (length ds) (length ks)))) rs ds ks ≡ timed n rs ds ks
+pub timed-all : (n : ℕ) (rs : List Record) (ds ks : List ℕ)
+    → timed (min n (min (length rs) (min (length ds) (length ks)))) rs ds ks ≡ timed n rs ds ks
 timed-all zero rs ds ks = rw zero-min
 timed-all (suc n) [] ds ks = rw (zero-min, min-zero)
 timed-all (suc n) (r ∷ rs) [] ks = rw (zero-min, min-zero, min-zero)
 timed-all (suc n) (r ∷ rs) (d ∷ ds) [] = rw (min-zero, min-zero, min-zero)
-timed-all (suc n) (r ∷ rs) (d ∷ ds) (k ∷ ks) = rw (suc-min-suc (length ds), suc-min-suc (length rs), suc-min-suc n) (ap (λ (t : List Record). withTimes r d k ∷ t) (timed-all n rs ds ks))
+timed-all (suc n) (r ∷ rs) (d ∷ ds) (k ∷ ks) =
+    rw (suc-min-suc (length ds), suc-min-suc (length rs), suc-min-suc n)
+    (ap (λ (t : List Record). withTimes r d k ∷ t) (timed-all n rs ds ks))
 
 -- ---- moves that are stored
 
@@ -95,11 +105,16 @@ placed-step i [] ms l m = absurd (not-suc-le-zero l)
 placed-step i (r ∷ rs) [] l m = absurd (not-suc-le-zero m)
 placed-step i (r ∷ rs) (s ∷ []) l m = absurd (let x : ⊥ = omega arith in x)
 placed-step zero (r ∷ rs) (s ∷ g ∷ ms) l m = refl
-placed-step (suc i) (r ∷ rs) (s ∷ g ∷ ms) l m = rw (three-more i, two-more i) (ap (λ (t : List Record). fresh s g ∷ t) (placed-step i rs ms (omega arith) (omega arith)))
+placed-step (suc i) (r ∷ rs) (s ∷ g ∷ ms) l m =
+    rw (three-more i, two-more i)
+    (ap (λ (t : List Record). fresh s g ∷ t) (placed-step i rs ms (omega arith) (omega arith)))
 
-pub placed-all : (n : ℕ) (rs : List Record) (ms : List ℕ) → placed (min n (min (length rs) (length ms / 2))) rs ms ≡ placed n rs ms
+pub placed-all : (n : ℕ) (rs : List Record) (ms : List ℕ)
+    → placed (min n (min (length rs) (length ms / 2))) rs ms ≡ placed n rs ms
 placed-all zero rs ms = rw zero-min
 placed-all (suc n) [] ms = rw (zero-min, min-zero)
 placed-all (suc n) (r ∷ rs) [] = rw (min-zero, min-zero)
 placed-all (suc n) (r ∷ rs) (s ∷ []) = rw (min-zero, min-zero)
-placed-all (suc n) (r ∷ rs) (s ∷ g ∷ ms) = rw (half-more (length ms), suc-min-suc (length rs), suc-min-suc n) (ap (λ (t : List Record). fresh s g ∷ t) (placed-all n rs ms))
+placed-all (suc n) (r ∷ rs) (s ∷ g ∷ ms) =
+    rw (half-more (length ms), suc-min-suc (length rs), suc-min-suc n)
+    (ap (λ (t : List Record). fresh s g ∷ t) (placed-all n rs ms))

@@ -1,15 +1,27 @@
--- Steps of `Types/Kit.antt`'s calculus for walks over slices of any element type, so that a walk keeps each reference whole, beside its token, and takes one element out for one access.
--- Nothing here speaks of records: every crate that walks over a slice imports it.
---     Elem             an element type with the laws that the steps ask: its row, how its machine values are spelled, and that it is Copy and plain.        num w        the unsigned integer of w bits
+-- Steps of `Types/Kit.antt`'s calculus for walks over slices of any element type, so that a walk keeps each
+-- reference whole, beside its token, and takes one element out for one access. Nothing here speaks of
+-- records: every crate that walks over a slice imports it.
+--     Elem             an element type with the laws that the steps ask: its row, how its machine values are
+--                      spelled, and that it is Copy and plain
+--     num w            the unsigned integer of w bits
 --     ref b o γ ys     the reference value: pointer, ghost name, list
---     takes-shr        [own of a `&κ [T]`; κ's token; …]  →  [a share of element i's cell, at the address that MIR computes; what else was opened; …].        gives-shr    the way back
---     takes-mut        the same of a `&κ mut [T]`, with the whole cell.        gives-mut    the way back, at another value of the element: the list is then `set ys i y`
---     frees-all        the function's locals are freed, all at once, once `returns` has read the result: the first k entries are kept, and the others are the locals, as `homes` has them
---     envOf, homes     the environment of a function's locals at the addresses ls, and the locals' entries of the context, the last local first: `some v` for a local that holds v, `none` for room. Of n locals local k stands at 2 * (n - 1 - k) in it
---     counted          a loop that counts i from 0 to n, over an invariant that is a function of i: a turn at each i < n, and the turn that leaves at n.        counted-with     the same with a fact φ i in hand at each i
---     puts             the first entry is put n places further back: a cell comes home to stand right before what lets it die
--- The two entries that a `takes` puts in front stand where the two that it takes stood, so no other entry moves.
--- Assumes `Given`.
+--     takes-shr        [own of a `&κ [T]`; κ's token; …] → [a share of element i's cell, at the address that
+--                      MIR computes; what else was opened; …]
+--     gives-shr        the way back
+--     takes-mut        the same of a `&κ mut [T]`, with the whole cell
+--     gives-mut        the way back, at another value of the element: the list is then `set ys i y`
+--     frees-all        the function's locals are freed, all at once, once `returns` has read the result: the
+--                      first k entries are kept, and the others are the locals, as `homes` has them
+--     envOf, homes     the environment of a function's locals at the addresses ls, and the locals' entries of
+--                      the context, the last local first: `some v` for a local that holds v, `none` for room.
+--                      Of n locals local k stands at 2 * (n - 1 - k) in it
+--     counted          a loop that counts i from 0 to n, over an invariant that is a function of i: a turn at
+--                      each i < n, and the turn that leaves at n
+--     counted-with     the same with a fact φ i in hand at each i
+--     puts             the first entry is put n places further back: a cell comes home to stand right before
+--                      what lets it die
+-- The two entries that a `takes` puts in front stand where the two that it takes stood, so no other entry
+-- moves. Assumes `Given`.
 use mathlib.Core.Path.{_≡_, refl, sym, _∙_, ap, subst}
 use Prim.Native.Nat.{ℕ, zero, suc, _+_, _*_, _<_}
 use native.Mathlib.Nat.{add-zero, zero-add}

@@ -1,13 +1,16 @@
--- The carriers' records as one list (page 01, "Network, moves and time"): "Each carrier's record holds its start, goal, distance and
--- start tick. The records are lent as one list by carrier number."
+-- The carriers' records as one list, by carrier number; a record has the start, the goal, the distance and
+-- the start tick of its carrier (rule 3.10).
 --     blank              what stands past the end of the list
 --     recordAt           the record of a carrier number, and `blank` past the end of the list
---     withTimes          a record with another distance and another tick: "Planning changes only distance and tick in the records of the job"
---     fresh              the record of a move that is not planned: "distance and tick are zero"
---     movesOf            the starts and goals of all records, by turns
---     moved rs ms        the numbers ms once the moves of rs are written over their front, as many as have room whole
---     timed n rs ds ks   the records rs once the first n have the distances ds and the ticks ks; none is changed that lacks either
---     placed n rs ms     the records rs once the first n are those of the moves ms, unplanned; none is changed that has no move
+--     withTimes          a record with another distance and another tick, and all else the same (rule 9.7)
+--     fresh              the record of a move that is not planned: distance and tick are zero (rule 9.5)
+--     movesOf            the starts and goals of all records, by turns (rule 1.7)
+--     moved rs ms        the numbers ms once the moves of rs are written over their front, as many as have
+--                        room whole
+--     timed n rs ds ks   the records rs once the first n have the distances ds and the ticks ks; none is
+--                        changed that lacks either
+--     placed n rs ms     the records rs once the first n are those of the moves ms, unplanned; none is
+--                        changed that has no move
 use Prim.Native.Nat.{ℕ, zero, suc}
 use mathlib.Core.List.{List, [], _∷_}
 use lib.ListN.{getD}

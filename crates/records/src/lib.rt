@@ -1,6 +1,7 @@
-// The carriers' records, lent as one list by carrier number, and the thin functions that carry them to numbers and back. Each takes
-// every input: it goes as far as the shortest of what it is lent. Nothing here decides: what is to be written, and for how many
-// records, is computed by functions on numbers. Every promise is one equation of the list that is left (specs/Table.antt).
+// The carriers' records, lent as one list by carrier number (rule 3.10), and the thin functions that carry
+// them to numbers and back. Each takes every input: it goes as far as the shortest of what it is lent.
+// Nothing here decides: what is to be written, and for how many records, is computed by functions on numbers.
+// Every promise is one equation of the list that is left (specs/Table.antt).
 ghost use mathlib.Core.Path.{_≡_};
 ghost use Prim.Native.Nat.{_/_, min};
 ghost use Rattle.records.specs.Table.{moved, timed, placed};
@@ -47,7 +48,8 @@ fn moves_in(count: usize, records: usize, moves: usize) -> usize
     fewer(count, most)
 }
 
-// Copies the start and the goal of each record to the front of `moves`, two numbers for each, for as many records as have room.
+// Copies the start and the goal of each record to the front of `moves`, two numbers for each, for as many
+// records as have room.
 pub fn load_moves(records: &[Record], moves: &mut [u16])
     ensures { λ _. ⌜ now (moves .exit) ≡ moved (now (records .entry)) (now (moves .entry)) ⌝ }
 {
@@ -61,9 +63,11 @@ pub fn load_moves(records: &[Record], moves: &mut [u16])
     }
 }
 
-// Writes the distance and the tick of the first `count` records, as many as there are records, distances and ticks.
+// Writes the distance and the tick of the first `count` records, as many as there are records, distances and
+// ticks. Nothing else in a record changes (rule 9.7).
 pub fn store_times(records: &mut [Record], count: usize, distances: &[u16], ticks: &[u32])
-    ensures { λ _. ⌜ now (records .exit) ≡ timed count (now (records .entry)) (now (distances .entry)) (now (ticks .entry)) ⌝ }
+    ensures { λ _. ⌜ now (records .exit)
+        ≡ timed count (now (records .entry)) (now (distances .entry)) (now (ticks .entry)) ⌝ }
 {
     let n = times_in(count, records.len(), distances.len(), ticks.len());
     let mut i: usize = 0;
@@ -74,7 +78,8 @@ pub fn store_times(records: &mut [Record], count: usize, distances: &[u16], tick
     }
 }
 
-// The first `count` records, as many as there are records and pairs of moves, become records of those moves, with distance and tick 0.
+// The first `count` records, as many as there are records and pairs of moves, become records of those moves,
+// with distance and tick 0 (rule 9.5).
 pub fn store_moves(records: &mut [Record], count: usize, moves: &[u16])
     ensures { λ _. ⌜ now (records .exit) ≡ placed count (now (records .entry)) (now (moves .entry)) ⌝ }
 {

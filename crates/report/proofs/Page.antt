@@ -1,21 +1,23 @@
--- The plan program answers the job that page 01 prints ("What the program prints") with the five lines that the page prints, byte for byte. The text is the written
--- form of the job, which computes, and so it is read as that job; the job is P8 of the case table, which gives its ticks and its cost. The distances are 4, 4 and 1:
--- none is more, as there are walks of so many lanes, and none is less, as the goal ticks make up the cost. Assumes nothing.
+-- The plan program answers the job of rule 7.14 with the five lines of rule 10.5, byte for byte. The text is
+-- the written form of the job, which computes, and so it is read as that job; the job is P8 of the case
+-- table, which gives its ticks and its cost. The distances are 4, 4 and 1: none is more, as there are walks
+-- of so many lanes, and none is less, as the goal ticks make up the cost. Assumes nothing.
 --     job-text         the bytes of examples/line.txt
 --     five-lines       the five lines
 --     printed-job      the definitions give the five lines of those ticks, distances and cost
---     page-answered    the answer to the text is the five lines; `answer-text-unique` (OneAnswer.antt) says that there is no other
+--     page-answered    the answer to the text is the five lines; `answer-text-unique` (OneAnswer.antt) says
+--                      that there is no other
 --     printed-refusal  a line of refusal, which computes too
 use mathlib.Core.Path.{_≡_, refl, sym, _∙_}
-use mathlib.Core.Logic.{inl, inr}
-use mathlib.Core.List.{List, [], _∷_, _++_}
+use mathlib.Core.Logic.{inl}
+use mathlib.Core.List.{List, [], _∷_}
 use Prim.Native.Nat.{ℕ, zero, suc, _+_, _*_, _≤_, _<_}
 use native.Mathlib.Omega.{arith}
-use lib.ListN.{length, getD}
+use lib.ListN.{getD}
 use Rattle.hall.specs.Case.{Accepted, cases, line5}
-use Rattle.hall.specs.Floor.{Walk, here, step, Lane, floorOf}
-use Rattle.hall.specs.Job.{Numbers, carriers, start, goal}
-use Rattle.hall.specs.Ticks.{Tables, own, total}
+use Rattle.hall.specs.Floor.{Walk, here, step, Lane, Network, networkOf, floor}
+use Rattle.hall.specs.Job.{Numbers, jobOf, start, goal}
+use Rattle.hall.specs.Ticks.{own, total}
 use Rattle.hall.proofs.Cases.{all-cases}
 use Rattle.hall.proofs.Sound.{checks-of-none}
 use Rattle.hall.proofs.Walks.{reverse, true-distance, lanes-symmetric}
@@ -47,22 +49,27 @@ abbrev pub distances : ℕ → ℕ
 distances i = getD (4 ∷ 4 ∷ 1 ∷ []) i 0
 
 pub printed-job : planText 3 ticks distances 17 ≡ five-lines
-unfolding planText carrierLines carrierLine field printing.decimal printing.digits five-lines
+unfolding planText carrierLines carrierLine field printing.decimal printing.digitsUpTo five-lines
 printed-job = refl
 
 -- `REFUSED 8 1024`
-pub printed-refusal : refusedText 8 1024 ≡ 82 ∷ 69 ∷ 70 ∷ 85 ∷ 83 ∷ 69 ∷ 68 ∷ 32 ∷ 56 ∷ 32 ∷ 49 ∷ 48 ∷ 50 ∷ 52 ∷ 10 ∷ []
-unfolding refusedText field printing.decimal printing.digits
+pub printed-refusal :
+    refusedText 8 1024 ≡ 82 ∷ 69 ∷ 70 ∷ 85 ∷ 83 ∷ 69 ∷ 68 ∷ 32 ∷ 56 ∷ 32 ∷ 49 ∷ 48 ∷ 50 ∷ 52 ∷ 10 ∷ []
+unfolding refusedText field printing.decimal printing.digitsUpTo
 printed-refusal = refl
 
 -- ---- the job
 
--- "a line of five nodes with lanes 0 1, 1 2, 2 3, 3 4, moves 0 to 4, 4 to 0, 2 to 1 and order 0, 1, 2"
+-- a line of five nodes; moves from 0 to 4, from 4 to 0 and from 2 to 1; carriers in the order of their
+-- numbers
+abbrev pub page-network : Network
+page-network = networkOf 5 line5
+
 abbrev pub page-job : Numbers
-page-job = record { nodes = 5; lanes = line5; moves = 0 ∷ 4 ∷ 4 ∷ 0 ∷ 2 ∷ 1 ∷ []; order = 0 ∷ 1 ∷ 2 ∷ [] }
+page-job = jobOf page-network (0 ∷ 4 ∷ 4 ∷ 0 ∷ 2 ∷ 1 ∷ []) (0 ∷ 1 ∷ 2 ∷ [])
 
 -- P8 is the eighth line of the table
-page-plan : Accepted page-job (0 ∷ 5 ∷ 3 ∷ []) 17
+page-plan : Accepted page-job (record { ticks = 0 ∷ 5 ∷ 3 ∷ []; cost = 17 })
 unfolding cases
 page-plan = all-cases 7 (omega arith)
 
@@ -71,32 +78,36 @@ page-plan = all-cases 7 (omega arith)
 lane : (k : ℕ) → k < 4 → Lane line5 (getD line5 (2 * k) 0) (getD line5 (2 * k + 1) 0)
 lane k h = record { k = k; inside = h; ends = inl (refl, refl) }
 
-down-the-line : Walk (floorOf 5 line5) 0 4 4
+down-the-line : Walk (floor page-network) 0 4 4
 down-the-line =
     step {a = 0} {b = 1} (omega arith) (lane 0 (omega arith))
     (step {a = 1} {b = 2} (omega arith) (lane 1 (omega arith))
     (step {a = 2} {b = 3} (omega arith) (lane 2 (omega arith))
     (step {a = 3} {b = 4} (omega arith) (lane 3 (omega arith)) (here {a = 4} (omega arith)))))
 
-one-back : Walk (floorOf 5 line5) 2 1 1
-one-back = step {a = 2} {b = 1} (omega arith) (lanes-symmetric 5 line5 1 2 (lane 1 (omega arith))) (here {a = 1} (omega arith))
+one-back : Walk (floor page-network) 2 1 1
+one-back =
+    step {a = 2} {b = 1} (omega arith) (lanes-symmetric page-network 1 2 (lane 1 (omega arith)))
+    (here {a = 1} (omega arith))
 
-module _ (i : ℕ) (h : i < 3) (n : ℕ) (w : Walk (floorOf 5 line5) (start page-job i) (goal page-job i) n) where
-  at-most : own (page-plan .tables) i ≤ n
-  at-most =
-      let plan = page-plan .plan in
-      true-distance (plan .true-distances .start-goal i i h h) (plan .reached i h) .least n w
+at-most : (i : ℕ) → i < 3 → (n : ℕ) → Walk (floor page-network) (start page-job i) (goal page-job i) n →
+    own (page-plan .tables) i ≤ n
+at-most i h n w =
+    let plan = page-plan .plan in
+    true-distance (plan .true-distances .start-goal i i h h) (plan .reached i h) .least n w
 
 page-distances : (i : ℕ) → i < 3 → distances i ≡ own (page-plan .tables) i
 unfolding total
 page-distances =
     let a = at-most 0 (omega arith) 4 down-the-line in
-    let b = at-most 1 (omega arith) 4 (reverse (lanes-symmetric 5 line5) down-the-line) in
+    let b = at-most 1 (omega arith) 4 (reverse (lanes-symmetric page-network) down-the-line) in
     let c = at-most 2 (omega arith) 1 one-back in
-    let sum : 17 ≡ 0 + (0 + own (page-plan .tables) 0) + (5 + own (page-plan .tables) 1) + (3 + own (page-plan .tables) 2) = page-plan .plan .cost-is in
+    let d = own (page-plan .tables) in
+    let sum : 17 ≡ 0 + (0 + d 0) + (5 + d 1) + (3 + d 2) = page-plan .plan .cost-is in
     each (omega (arith, a, b, c, sum)) (omega (arith, a, b, c, sum)) (omega (arith, a, b, c, sum))
   where
-    each : 4 ≡ own (page-plan .tables) 0 → 4 ≡ own (page-plan .tables) 1 → 1 ≡ own (page-plan .tables) 2 → (i : ℕ) → i < 3 → distances i ≡ own (page-plan .tables) i
+    each : 4 ≡ own (page-plan .tables) 0 → 4 ≡ own (page-plan .tables) 1 → 1 ≡ own (page-plan .tables) 2 →
+        (i : ℕ) → i < 3 → distances i ≡ own (page-plan .tables) i
     each a b c zero h = a
     each a b c (suc zero) h = b
     each a b c (suc (suc zero)) h = c
@@ -129,6 +140,7 @@ text-written = refl
 pub page-answered : AnswerText job-text five-lines
 page-answered =
     let none = page-plan .no-fault in
-    let read : reading job-text ≡ job page-job = rw text-written (written-text page-job (checks-of-none page-job none) refl) in
+    let sound = checks-of-none page-job none in
+    let read : reading job-text ≡ job page-job = rw text-written (written-text page-job sound refl) in
     let same = text-same 3 ticks ticks distances (own (page-plan .tables)) 17 (λ i h. refl) page-distances in
     AnswerText.accepted read (JobText.planned none (page-plan .plan) (sym printed-job ∙ same))

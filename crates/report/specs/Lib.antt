@@ -1,4 +1,4 @@
--- What the plan program prints, in the page's words.
+-- What the plan program prints (section 10 of the rules).
 pub mod Decimal
 pub mod Printed
 pub mod Printing

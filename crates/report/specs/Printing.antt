@@ -1,52 +1,62 @@
--- What printing leaves in the lent bytes, and what it answers.
---     Prints          the first bytes are exactly the text, the rest is as it came, and the answer is how many bytes the text has
---     Untouched       nothing is printed: the bytes are as they came, and the answer is 0
---     Askable         a plan can be printed: 64 carriers at most, a distance and a tick for each, and 2,048 bytes for the text
---     PlanPrinting    the answer to a plan, for every input
---     RefusedPrinting the answer to a refusal, for every input
---     written         bytes that are put into a list from a place on; what lies beyond the list's end is dropped
---     Room            the bytes have room from a place on
---     Appended        bytes stand from a place on, and the answer is the place past them
+-- What printing leaves in the lent bytes, and what it answers (rule 10.6).
+--     Prints             the first bytes are exactly the text, the rest is as it came, and the answer is how
+--                        many bytes the text has
+--     BytesUntouched     nothing is printed: the bytes are as they came, and the answer is 0
+--     Askable            a plan can be printed: 64 carriers at most, a distance and a tick for each, and
+--                        2,048 bytes for the text
+--     PlanPrinting       the answer to a plan, for every input
+--     RefusedPrinting    the answer to a refusal, for every input
+--     overwritten        bytes that are put into a list from a place on; what lies beyond the list's end is
+--                        dropped
+--     Room               the bytes have room from a place on
+--     Appended           bytes stand from a place on, and the answer is the place past them
 use mathlib.Core.Path.{_≡_}
 use Prim.Native.Nat.{ℕ, zero, suc, _+_, _≤_, _<_}
 use mathlib.Core.List.{List, [], _∷_, _++_}
 use lib.ListN.{length, getD, drop}
-use Rattle.report.specs.Printed.{planText, refusedText}
+use Rattle.hall.specs.Limits.{carrierLimit}
+use Rattle.report.specs.Printed.{printRoom, planText, refusedText}
 
 pub record Prints (text out out′ : List ℕ) (r : ℕ) : Type 0 where
   pub bytes : out′ ≡ text ++ drop (length text) out
   pub size : r ≡ length text
 
-pub record Untouched (out out′ : List ℕ) (r : ℕ) : Type 0 where
+pub record BytesUntouched (out out′ : List ℕ) (r : ℕ) : Type 0 where
   pub bytes : out′ ≡ out
   pub size : r ≡ 0
 
 pub record Askable (carriers : ℕ) (distances ticks out : List ℕ) : Type 0 where
-  pub few : carriers ≤ 64
+  pub few : carriers ≤ carrierLimit
   pub distance-each : carriers ≤ length distances
   pub tick-each : carriers ≤ length ticks
-  pub room : 2048 ≤ length out
+  pub room : printRoom ≤ length out
 
-pub data PlanPrinting (carriers : ℕ) (distances ticks : List ℕ) (cost : ℕ) (out out′ : List ℕ) (r : ℕ) : Type 0 where
-  whole : Askable carriers distances ticks out → Prints (planText carriers (λ i. getD ticks i 0) (λ i. getD distances i 0) cost) out out′ r
+pub data PlanPrinting (carriers : ℕ) (distances ticks : List ℕ) (cost : ℕ) (out out′ : List ℕ) (r : ℕ)
+    : Type 0 where
+  whole : Askable carriers distances ticks out
+      → Prints (planText carriers (λ i. getD ticks i 0) (λ i. getD distances i 0) cost) out out′ r
       → PlanPrinting carriers distances ticks cost out out′ r
-  nothing : ¬ Askable carriers distances ticks out → Untouched out out′ r → PlanPrinting carriers distances ticks cost out out′ r
+  nothing : ¬ Askable carriers distances ticks out
+      → BytesUntouched out out′ r
+      → PlanPrinting carriers distances ticks cost out out′ r
 
 pub data RefusedPrinting (number line : ℕ) (out out′ : List ℕ) (r : ℕ) : Type 0 where
-  whole : 2048 ≤ length out → Prints (refusedText number line) out out′ r → RefusedPrinting number line out out′ r
-  nothing : length out < 2048 → Untouched out out′ r → RefusedPrinting number line out out′ r
+  whole : printRoom ≤ length out
+      → Prints (refusedText number line) out out′ r
+      → RefusedPrinting number line out out′ r
+  nothing : length out < printRoom → BytesUntouched out out′ r → RefusedPrinting number line out out′ r
 
 -- ---- the steps of printing
 
-unfoldable pub written : (at : ℕ) (bytes out : List ℕ) → List ℕ
-written at bytes [] = []
-written zero [] (x ∷ out) = x ∷ out
-written zero (b ∷ bytes) (x ∷ out) = b ∷ written zero bytes out
-written (suc at) bytes (x ∷ out) = x ∷ written at bytes out
+unfoldable pub overwritten : (at : ℕ) (bytes out : List ℕ) → List ℕ
+overwritten at bytes [] = []
+overwritten zero [] (x ∷ out) = x ∷ out
+overwritten zero (b ∷ bytes) (x ∷ out) = b ∷ overwritten zero bytes out
+overwritten (suc at) bytes (x ∷ out) = x ∷ overwritten at bytes out
 
 pub record Room (at : ℕ) (bytes out : List ℕ) : Type 0 where
   pub fits : at + length bytes ≤ length out
 
 pub record Appended (out : List ℕ) (at : ℕ) (bytes out′ : List ℕ) (r : ℕ) : Type 0 where
-  pub bytes-stand : out′ ≡ written at bytes out
+  pub bytes-stand : out′ ≡ overwritten at bytes out
   pub past-them : r ≡ at + length bytes

@@ -1,11 +1,14 @@
-// The answer to a job text, as the plan program prints it: the plan of the job, or the refusal with its line. Every text is taken; the answer goes to the front
-// of the lent bytes, and into fewer than 2,048 bytes nothing is printed and the answer is 0. A print is no question of page 01, so no refusal number is
-// given for a short list, and the rest of the bytes stays as it came: the bytes printed are those that the answer counts. The tables that reading and planning
-// fill are locals, 41,728 bytes of arrays.
-ghost use lib.ListN.{length};
+// The answer to a job text, as the plan program prints it: the plan of the job, or the refusal with its line.
+// Every text is taken; the answer goes to the front of the lent bytes, and into fewer than 2,048 bytes
+// nothing is printed and the answer is 0 (section 10 of the rules). A print is none of the questions of
+// section 8, so no refusal number is given for a short list, and the rest of the bytes stays as it came: the
+// bytes printed are those that the answer counts. The tables that reading and planning fill are locals,
+// 41,728 bytes of arrays.
 ghost use denote.Ref.{now};
-ghost use Rattle.hall.specs.Refusals.{Checks, None};
-ghost use Rattle.planner.specs.Planning.{job};
+ghost use Rattle.hall.specs.Floor.{networkOf};
+ghost use Rattle.hall.specs.Job.{jobOf};
+ghost use Rattle.hall.specs.Stages.{None};
+ghost use Rattle.hall.specs.Questions.{checksQuestion};
 ghost use Rattle.report.specs.Answer.{JobText, AnswerText, Answering};
 use crate::print::print_plan;
 use crate::print::print_refused;
@@ -17,14 +20,18 @@ use text::reader::read_numbers;
 
 pub mod print;
 
-// The answer for a job without faults 2 to 7. Carrier 0 stands on the line behind NODES, LANES, the lanes and CARRIERS.
+// The answer for a job without faults 2 to 7. Carrier 0 stands on the line behind NODES, LANES, the lanes and
+// CARRIERS (rule 7.10).
 fn answer_job(nodes: usize, lanes: &[u16], moves: &[u16], order: &[u16], out: &mut [u8]) -> usize
-    requires { ⌜ None (Checks (job nodes (now lanes) (now moves) (now order))) ⌝ }
-    ensures { λ r. ⌜ Answering (JobText (job nodes (now (lanes .entry)) (now (moves .entry)) (now (order .entry)))) (now (out .entry)) (now (out .exit)) r ⌝ }
+    requires { ⌜ None (checksQuestion (jobOf (networkOf nodes (now lanes)) (now moves) (now order))) ⌝ }
+    ensures { λ r. ⌜ Answering
+        (JobText (jobOf (networkOf nodes (now (lanes .entry))) (now (moves .entry)) (now (order .entry))))
+        (now (out .entry)) (now (out .exit))
+        r ⌝ }
 {
-    let mut table = [0u16; 12288];
-    let mut distances = [0u16; 64];
-    let mut ticks = [0u32; 64];
+    let mut table = [0u16; Job::TABLE];
+    let mut distances = [0u16; Job::CARRIERS];
+    let mut ticks = [0u32; Job::CARRIERS];
     let carriers = moves.len() / 2;
     let first = 4 + lanes.len() / 2;
     let planned = plan_moves(
@@ -49,11 +56,14 @@ fn answer_job(nodes: usize, lanes: &[u16], moves: &[u16], order: &[u16], out: &m
 
 // The answer to a job text.
 pub fn answer(text: &[u8], out: &mut [u8]) -> usize
-    ensures { λ r. ⌜ Answering (AnswerText (now (text .entry))) (now (out .entry)) (now (out .exit)) r ⌝ }
+    ensures { λ r. ⌜ Answering
+        (AnswerText (now (text .entry)))
+        (now (out .entry)) (now (out .exit))
+        r ⌝ }
 {
-    let mut lanes = [0u16; 8192];
-    let mut moves = [0u16; 128];
-    let mut order = [0u16; 64];
+    let mut lanes = [0u16; Job::LANE_NUMBERS];
+    let mut moves = [0u16; Job::MOVE_NUMBERS];
+    let mut order = [0u16; Job::CARRIERS];
     let read = read_numbers(text, &mut lanes, Job::CARRIERS, &mut moves, &mut order);
     match read {
         Read::Job(counts) => {

@@ -1,13 +1,14 @@
-// What the plan program prints, as functions on lent bytes: the text of a plan and of a refusal. A text goes to the front of the bytes, the rest stays as
-// it came, and the answer is how many bytes the text has. Where the bytes are too few, there are more than 64 carriers, or a carrier lacks a distance or a
-// tick, nothing is printed and the answer is 0. Every text that can be asked for fits into 2,048 bytes, so no place is ever past the end.
-ghost use mathlib.Core.Path.{_≡_};
+// What the plan program prints, as functions on lent bytes: the text of a plan and of a refusal (rules 10.1,
+// 10.2 and 10.6). A text goes to the front of the bytes, the rest stays as it came, and the answer is how
+// many bytes the text has. Where the bytes are too few, there are more than 64 carriers, or a carrier lacks a
+// distance or a tick, nothing is printed and the answer is 0. Every text that can be asked for fits into
+// 2,048 bytes, so no place is ever past the end.
 ghost use Prim.Native.Nat.{_+_, _≤_, _<_};
 ghost use mathlib.Core.List.{[], _∷_};
 ghost use lib.ListN.{length, getD};
 ghost use denote.Ref.{now};
 ghost use Rattle.report.specs.Decimal.{decimal};
-ghost use Rattle.report.specs.Printed.{field, carrierLine, carrierLines, planText, refusedText};
+ghost use Rattle.report.specs.Printed.{field, carrierLine, carrierLines};
 ghost use Rattle.report.specs.Printing.{Room, Appended, PlanPrinting, RefusedPrinting};
 use hall::Job;
 
@@ -63,7 +64,10 @@ fn put_field(n: usize, after: u8, out: &mut [u8], at: usize) -> usize
 // A carrier's line: its number, start tick, distance and goal tick.
 fn put_carrier(carrier: usize, tick: u32, distance: u16, out: &mut [u8], at: usize) -> usize
     requires { ⌜ Room at (carrierLine carrier tick distance) (now out) ⌝ }
-    ensures { λ r. ⌜ Appended (now (out .entry)) at (carrierLine carrier tick distance) (now (out .exit)) r ⌝ }
+    ensures { λ r. ⌜ Appended
+        (now (out .entry)) at
+        (carrierLine carrier tick distance)
+        (now (out .exit)) r ⌝ }
 {
     let start = tick as usize;
     let way = distance as usize;
@@ -82,8 +86,16 @@ fn put_carriers(
     out: &mut [u8],
     at: usize,
 ) -> usize
-    requires { ⌜ (carriers ≤ length (now distances)) × (carriers ≤ length (now ticks)) × Room at (carrierLines carriers (λ i. getD (now ticks) i 0) (λ i. getD (now distances) i 0)) (now out) ⌝ }
-    ensures { λ r. ⌜ Appended (now (out .entry)) at (carrierLines carriers (λ i. getD (now (ticks .entry)) i 0) (λ i. getD (now (distances .entry)) i 0)) (now (out .exit)) r ⌝ }
+    requires { ⌜
+        (carriers ≤ length (now distances))
+        × (carriers ≤ length (now ticks))
+        × Room at
+        (carrierLines carriers (λ i. getD (now ticks) i 0) (λ i. getD (now distances) i 0))
+        (now out) ⌝ }
+    ensures { λ r. ⌜ Appended
+        (now (out .entry)) at
+        (carrierLines carriers (λ i. getD (now (ticks .entry)) i 0) (λ i. getD (now (distances .entry)) i 0))
+        (now (out .exit)) r ⌝ }
 {
     let mut next = at;
     let mut i: usize = 0;
@@ -104,7 +116,10 @@ pub fn print_plan(
     cost: u32,
     out: &mut [u8],
 ) -> usize
-    ensures { λ r. ⌜ PlanPrinting carriers (now (distances .entry)) (now (ticks .entry)) cost (now (out .entry)) (now (out .exit)) r ⌝ }
+    ensures { λ r. ⌜ PlanPrinting
+        carriers (now (distances .entry)) (now (ticks .entry)) cost
+        (now (out .entry)) (now (out .exit))
+        r ⌝ }
 {
     if carriers > Job::CARRIERS {
         return 0;
@@ -125,7 +140,7 @@ pub fn print_plan(
     put_field(cost as usize, b'\n', out, sum)
 }
 
-// The text of a refusal: the page's number of it, and the line.
+// The text of a refusal: its listed number, and the line.
 pub fn print_refused(number: u8, line: usize, out: &mut [u8]) -> usize
     ensures { λ r. ⌜ RefusedPrinting number line (now (out .entry)) (now (out .exit)) r ⌝ }
 {

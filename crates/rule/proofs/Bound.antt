@@ -1,5 +1,6 @@
--- How late the first permitted tick can be, for callers that have to know that it fits. A tick past the goal ticks of all held carriers is permitted by each
--- of them, so the smallest permitted tick is no later, unless the search began later. Assumes nothing.
+-- How late the first permitted tick can be, for callers that have to know that it fits (rule 5.7). A tick
+-- past the goal ticks of all held carriers is permitted by each of them, so the smallest permitted tick is no
+-- later, unless the search began later. Assumes nothing.
 use mathlib.Core.List.{List}
 use Prim.Native.Nat.{ℕ, _+_, _*_, _/_, _≤_, _<_}
 use lib.ListN.{length, getD}
@@ -8,13 +9,16 @@ use Rattle.hall.specs.Ticks.{SmallestFrom, PermittedBy}
 use Rattle.hall.proofs.Ticks.{past-goal}
 use Rattle.rule.specs.Held.{heldPair, heldTick}
 
-pub first-tick-bound : (n : ℕ) (pair : ℕ → Pair) (tick : ℕ → ℕ) {from x : ℕ} (b : ℕ) → SmallestFrom from (PermittedBy n pair tick) x
+pub first-tick-bound : (n : ℕ) (pair : ℕ → Pair) (tick : ℕ → ℕ) {from x : ℕ} (b : ℕ)
+    → SmallestFrom from (PermittedBy n pair tick) x
     → ((p : ℕ) → p < n → tick p + pair p .ii < b) → from ≤ b → x ≤ b
 unfolding PermittedBy
 first-tick-bound n pair tick b s goals h = s .least b h (λ p l. past-goal (pair p) (tick p) b (goals p l))
 
 -- the same for the list of held carriers, by its numbers: the start tick and the own distance of each
-pub held-bound : (held : List ℕ) {from x : ℕ} (b : ℕ) → SmallestFrom from (PermittedBy (length held / 7) (heldPair held) (heldTick held)) x
-    → ((p : ℕ) → p < length held / 7 → getD held (7 * p) 0 + getD held (7 * p + 3) 0 < b) → from ≤ b → x ≤ b
+pub held-bound : (held : List ℕ) {from x : ℕ} (b : ℕ)
+    → SmallestFrom from (PermittedBy (length held / 7) (heldPair held) (heldTick held)) x
+    → ((p : ℕ) → p < length held / 7 → getD held (7 * p) 0 + getD held (7 * p + 3) 0 < b)
+    → from ≤ b → x ≤ b
 unfolding heldPair heldTick
 held-bound held b s goals h = first-tick-bound (length held / 7) (heldPair held) (heldTick held) b s goals h

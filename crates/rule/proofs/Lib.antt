@@ -1,4 +1,4 @@
--- The laws behind the promises, from one stretch to the whole search, and what callers use: Carry, Bound, Unique.
+-- The laws behind the promises, from one stretch to the whole search. Carry, Bound, Unique: for callers.
 pub mod Stretch
 pub mod StretchEnd
 pub mod Reach

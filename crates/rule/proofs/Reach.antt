@@ -1,7 +1,8 @@
--- Ticks on the way to the first one that every held carrier permits. A move to the first tick that one held carrier permits passes only ticks that this
--- carrier forbids, so none that all permit; and such moves add up. A pass over all held carriers that moves nothing has asked each of them about
--- the same tick, so all permit it. No move leaves what one tick and one distance of 32 bits make, since a tick past a carrier's goal tick is
--- permitted by it. Assumes nothing.
+-- Ticks on the way to the first one that every held carrier permits. A move to the first tick that one held
+-- carrier permits passes only ticks that this carrier forbids, so none that all permit; and such moves add
+-- up. A pass over all held carriers that moves nothing has asked each of them about the same tick, so all
+-- permit it. No move leaves what one tick and one distance of 32 bits make, since a tick past a carrier's
+-- goal tick is permitted by it. Assumes nothing.
 use mathlib.Core.Path.{_≡_, subst}
 use mathlib.Core.List.{List}
 use Prim.Native.Nat.{ℕ, _+_, _/_, _≤_, _<_}
@@ -18,23 +19,31 @@ use Rattle.rule.proofs.Stretch.{Free, free-bound, free-onward}
 pub reached-here : (t : ℕ) (Permits : ℕ → Type 0) → Reached t Permits t
 reached-here t Permits = record { not-before = le-refl t; none-before = λ y h p. h }
 
-pub reached-further : {a b x : ℕ} {Permits : ℕ → Type 0} → Reached a Permits b → Reached b Permits x → Reached a Permits x
-reached-further r s = record { not-before = omega (arith, r .not-before, s .not-before); none-before = λ y h p. s .none-before y (r .none-before y h p) p }
+pub reached-further : {a b x : ℕ} {Permits : ℕ → Type 0}
+    → Reached a Permits b → Reached b Permits x → Reached a Permits x
+reached-further r s = record {
+  not-before = omega (arith, r .not-before, s .not-before);
+  none-before = λ y h p. s .none-before y (r .none-before y h p) p;
+}
 
 -- a reached tick that is permitted is the smallest
-pub reached-smallest : {a x : ℕ} {Permits : ℕ → Type 0} → Reached a Permits x → Permits x → SmallestFrom a Permits x
+pub reached-smallest : {a x : ℕ} {Permits : ℕ → Type 0}
+    → Reached a Permits x → Permits x → SmallestFrom a Permits x
 reached-smallest r p = record { not-before = r .not-before; permitted = p; least = r .none-before }
 
 -- the first tick that one of the carriers permits is reached against all of them
-pub reached-by-one : (n : ℕ) (pair : ℕ → Pair) (tick : ℕ → ℕ) (p : ℕ) {t x : ℕ} → p < n → SmallestFrom t (Free (pair p) (tick p)) x → Reached t (PermittedBy n pair tick) x
+pub reached-by-one : (n : ℕ) (pair : ℕ → Pair) (tick : ℕ → ℕ) (p : ℕ) {t x : ℕ}
+    → p < n → SmallestFrom t (Free (pair p) (tick p)) x → Reached t (PermittedBy n pair tick) x
 unfolding PermittedBy
-reached-by-one n pair tick p h s = record { not-before = s .not-before; none-before = λ y l all. s .least y l (all p h) }
+reached-by-one n pair tick p h s =
+    record { not-before = s .not-before; none-before = λ y l all. s .least y l (all p h) }
 
 permitted-by-none : (pair : ℕ → Pair) (tick : ℕ → ℕ) (x : ℕ) → PermittedBy 0 pair tick x
 unfolding PermittedBy
 permitted-by-none pair tick x p h = absurd (not-suc-le-zero h)
 
-permitted-by-more : (n : ℕ) (pair : ℕ → Pair) (tick : ℕ → ℕ) (x : ℕ) → PermittedBy n pair tick x → Free (pair n) (tick n) x → PermittedBy (n + 1) pair tick x
+permitted-by-more : (n : ℕ) (pair : ℕ → Pair) (tick : ℕ → ℕ) (x : ℕ)
+    → PermittedBy n pair tick x → Free (pair n) (tick n) x → PermittedBy (n + 1) pair tick x
 unfolding PermittedBy
 permitted-by-more n pair tick x all one p h = cases (decLt p n)
   where
@@ -42,7 +51,7 @@ permitted-by-more n pair tick x all one p h = cases (decLt p n)
     cases (yes l) = all p l
     cases (no l) = let e : p ≡ n = omega arith in rw e one
 
--- a pass over the held carriers that began at a tick, has asked those before a place, and now stands at another tick
+-- a pass over the held carriers that began at a tick, has asked those before a place, and is now at another
 pub record SweptTo (held : List ℕ) (from place tick : ℕ) : Type 0 where
   -- no tick that all permit was passed
   pub reached : Reached from (PermittedByHeld held (length held / 7)) tick
@@ -62,9 +71,12 @@ module _ (held : List ℕ) (from : ℕ) where
     within = h;
   }
 
-  module _ (place tick x : ℕ) (inside : place < length held / 7) (s : SweptTo held from place tick) (one : SmallestFrom tick (Free (heldPair held place) (heldTick held place)) x) where
+  module _ (place tick x : ℕ) (inside : place < length held / 7) (s : SweptTo held from place tick)
+      (one : SmallestFrom tick (Free (heldPair held place) (heldTick held place)) x) where
     still-on : x ≡ from → PermittedByHeld held (place + 1) from
-    still-on e = permitted-by-more place (heldPair held) (heldTick held) from (s .still same) (subst (Free (heldPair held place) (heldTick held place)) e (one .permitted))
+    still-on e =
+        permitted-by-more place (heldPair held) (heldTick held) from (s .still same)
+        (subst (Free (heldPair held place) (heldTick held place)) e (one .permitted))
       where
         same : tick ≡ from
         same = omega (arith, s .reached .not-before, one .not-before)
@@ -79,20 +91,33 @@ module _ (held : List ℕ) (from : ℕ) where
       held-up = λ f. let k = one .least tick (le-refl tick) f in omega arith;
       free-on = free-onward (heldPair held place) (heldTick held place) tick x one l;
     }
-    passed-on h (no l) = let e : tick ≡ x = omega (arith, one .not-before) in subst (PassedOne held from) e (s .passed (omega arith))
+    passed-on h (no l) =
+        let e : tick ≡ x = omega (arith, one .not-before) in
+        subst (PassedOne held from) e (s .passed (omega arith))
 
-    pub sweep-on : heldTick held place + heldPair held place .ii < 8589934591 → SweptTo held from (place + 1) x
+    pub sweep-on : heldTick held place + heldPair held place .ii < 8589934591
+        → SweptTo held from (place + 1) x
     sweep-on goal = record {
-      reached = reached-further (s .reached) (reached-by-one (length held / 7) (heldPair held) (heldTick held) place inside one);
+      reached =
+          reached-further (s .reached)
+          (reached-by-one (length held / 7) (heldPair held) (heldTick held) place inside one);
       still = still-on;
       passed = λ h. passed-on h (decLt tick x);
       within = free-bound (heldPair held place) (heldTick held place) 8589934591 one (s .within) goal;
     }
 
-  pub sweep-ends : {place tick : ℕ} → place ≡ length held / 7 → SweptTo held from place tick → Swept held from tick
-  sweep-ends e s = record { reached = s .reached; still = λ f. rw e at (s .still f); passed = s .passed; within = s .within }
+  pub sweep-ends : {place tick : ℕ}
+      → place ≡ length held / 7 → SweptTo held from place tick → Swept held from tick
+  sweep-ends e s = record {
+    reached = s .reached;
+    still = λ f. rw e at (s .still f);
+    passed = s .passed;
+    within = s .within;
+  }
 
 -- a reached tick that a whole pass does not move is the smallest that all permit
-pub swept-smallest : (held : List ℕ) (from tick next : ℕ) → Reached from (PermittedByHeld held (length held / 7)) tick → Swept held tick next → next ≤ tick
+pub swept-smallest : (held : List ℕ) (from tick next : ℕ)
+    → Reached from (PermittedByHeld held (length held / 7)) tick → Swept held tick next → next ≤ tick
     → SmallestFrom from (PermittedByHeld held (length held / 7)) tick
-swept-smallest held from tick next r s h = reached-smallest r (s .still (omega (arith, s .reached .not-before)))
+swept-smallest held from tick next r s h =
+    reached-smallest r (s .still (omega (arith, s .reached .not-before)))

@@ -1,6 +1,8 @@
--- The ticks that one held carrier forbids are an unbroken stretch, so a forbidden tick is left in one jump. After a forbidden tick no tick lies at the
--- low end, so the exception can hold at the high end alone: there the stretch stops one tick earlier. Every tick past the high end is permitted.
--- Hence the smallest permitted tick is the high end itself where the exception holds, and the tick after it where it does not. Assumes nothing.
+-- The ticks that one held carrier forbids are an unbroken stretch (rule 4.7), so a forbidden tick is left in
+-- one jump. After a forbidden tick no tick lies at the low end, so the exception (rule 4.8) can hold at the
+-- high end alone: there the stretch stops one tick earlier. Every tick past the high end is permitted. Hence
+-- the smallest permitted tick is the high end itself where the exception holds, and the tick after it where
+-- it does not. Assumes nothing.
 use mathlib.Core.Path.{_≡_}
 use mathlib.Core.Logic.{inl, inr}
 use Prim.Native.Nat.{ℕ, _+_, _≤_, _<_}
@@ -22,15 +24,22 @@ module _ (p : Pair) (ti : ℕ) where
   free-here t f = record { not-before = le-refl t; permitted = f; least = λ y h g. h }
 
   -- a tick after a forbidden one is forbidden too, up to the high end and short of the exception there
-  pub stretch-unbroken : (t y : ℕ) → Forbidden⁺ p ti t → t < y → y + p .ji ≤ ti + p .ii → (y + p .ji ≡ ti + p .ii → Excepted⁺ p ti y → ⊥) → Forbidden⁺ p ti y
-  stretch-unbroken t y f after before none =
-      record { joined = f .joined; gap-not-above = f .gap-not-above; low = omega (arith, f .low); high = before; not-excepted = not-at-an-end }
+  pub stretch-unbroken : (t y : ℕ) → Forbidden⁺ p ti t → t < y → y + p .ji ≤ ti + p .ii
+      → (y + p .ji ≡ ti + p .ii → Excepted⁺ p ti y → ⊥) → Forbidden⁺ p ti y
+  stretch-unbroken t y f after before none = record {
+    joined = f .joined;
+    gap-not-above = f .gap-not-above;
+    low = omega (arith, f .low);
+    high = before;
+    not-excepted = not-at-an-end;
+  }
     where
       not-at-an-end : Excepted⁺ p ti y → ⊥
       not-at-an-end e = elim (e .at-an-end) [ inl h ↦ omega (arith, f .low) | inr h ↦ none h e ]
 
   -- no tick from a forbidden one up and before the bound is permitted, if that holds of each tick after it
-  stretch-least : (t end : ℕ) → Forbidden⁺ p ti t → ((y : ℕ) → t < y → y < end → Forbidden⁺ p ti y) → (y : ℕ) → t ≤ y → Free y → end ≤ y
+  stretch-least : (t end : ℕ) → Forbidden⁺ p ti t → ((y : ℕ) → t < y → y < end → Forbidden⁺ p ti y)
+      → (y : ℕ) → t ≤ y → Free y → end ≤ y
   stretch-least t end f inside y h g = cases (decLt y end) (decLt t y)
     where
       cases : Dec (y < end) → Dec (t < y) → end ≤ y
@@ -41,17 +50,26 @@ module _ (p : Pair) (ti : ℕ) where
   module _ (t last : ℕ) (f : Forbidden⁺ p ti t) (at-end : last + p .ji ≡ ti + p .ii) where
     -- the exception does not hold at the high end: the next tick is the first that is free
     pub free-after-last : (Excepted⁺ p ti last → ⊥) → SmallestFrom t Free (last + 1)
-    free-after-last none = record { not-before = omega (arith, f .high); permitted = past; least = stretch-least t (last + 1) f inside }
+    free-after-last none = record {
+      not-before = omega (arith, f .high);
+      permitted = past;
+      least = stretch-least t (last + 1) f inside;
+    }
       where
         past : Free (last + 1)
         past g = let k = forbidden-iff p ti (last + 1) .0 g in omega (arith, k .high)
 
         inside : (y : ℕ) → t < y → y < last + 1 → Forbidden⁺ p ti y
-        inside y l k = stretch-unbroken t y f l (omega arith) (λ e. let same : y ≡ last = omega arith in rw same none)
+        inside y l k =
+            stretch-unbroken t y f l (omega arith) (λ e. let same : y ≡ last = omega arith in rw same none)
 
     -- the exception holds at the high end: that end is free
     pub free-at-last : Excepted⁺ p ti last → SmallestFrom t Free last
-    free-at-last e = record { not-before = omega (arith, f .high); permitted = excepted; least = stretch-least t last f inside }
+    free-at-last e = record {
+      not-before = omega (arith, f .high);
+      permitted = excepted;
+      least = stretch-least t last f inside;
+    }
       where
         excepted : Free last
         excepted g = forbidden-iff p ti last .0 g .not-excepted e
@@ -60,14 +78,22 @@ module _ (p : Pair) (ti : ℕ) where
         inside y l k = stretch-unbroken t y f l (omega arith) (λ same. absurd (let x : ⊥ = omega arith in x))
 
 -- a stretch that was left is left for good
-pub free-onward : (p : Pair) (ti t x : ℕ) → SmallestFrom t (Free p ti) x → t < x → (y : ℕ) → x ≤ y → Free p ti y
-free-onward p ti t x s h y l f = let k = s .least t (le-refl t) (λ g. held-up (forbidden-iff p ti t .0 g) (forbidden-iff p ti y .0 f) (decLt x y)) in omega arith
+pub free-onward : (p : Pair) (ti t x : ℕ)
+    → SmallestFrom t (Free p ti) x → t < x → (y : ℕ) → x ≤ y → Free p ti y
+free-onward p ti t x s h y l f =
+    let k =
+    s .least t (le-refl t)
+    (λ g. held-up (forbidden-iff p ti t .0 g) (forbidden-iff p ti y .0 f) (decLt x y))
+    in omega arith
   where
     held-up : Forbidden⁺ p ti t → Forbidden⁺ p ti y → Dec (x < y) → ⊥
     held-up g k (yes m) =
-        s .permitted (forbidden-iff p ti x .1 (stretch-unbroken p ti t x g h (omega (arith, k .high)) (λ e n. omega (arith, k .high))))
+        s .permitted
+        (forbidden-iff p ti x .1
+        (stretch-unbroken p ti t x g h (omega (arith, k .high)) (λ e n. omega (arith, k .high))))
     held-up g k (no m) = let e : y ≡ x = omega arith in s .permitted (rw e at f)
 
 -- a single held carrier moves a tick no further than one past its own goal tick
-pub free-bound : (p : Pair) (ti : ℕ) {from x : ℕ} (b : ℕ) → SmallestFrom from (Free p ti) x → from ≤ b → ti + p .ii < b → x ≤ b
+pub free-bound : (p : Pair) (ti : ℕ) {from x : ℕ} (b : ℕ)
+    → SmallestFrom from (Free p ti) x → from ≤ b → ti + p .ii < b → x ≤ b
 free-bound p ti b s h l = s .least b h (past-goal p ti b l)

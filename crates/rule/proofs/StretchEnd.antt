@@ -1,5 +1,6 @@
--- Where the stretch of one held carrier ends, as a number: the high end where the exception holds there, the tick after it where it does not. From a forbidden
--- tick this is the first free one (`Stretch`). So it lies after every tick that is held up, and by every tick from which all are free. Assumes nothing.
+-- Where the stretch of one held carrier ends, as a number: the high end where the exception (rule 4.8) holds
+-- there, the tick after it where it does not. From a forbidden tick this is the first free one (`Stretch`).
+-- So it lies after every tick that is held up, and by every tick from which all are free. Assumes nothing.
 use mathlib.Core.Path.{_≡_, subst}
 use mathlib.Core.Logic.{inr}
 use Prim.Native.Nat.{ℕ, _+_, _-_, _%_, _≤_, _<_}
@@ -22,17 +23,21 @@ module _ (p : Pair) (ti : ℕ) where
   last = ti + p .ii - p .ji
 
   pub stretchEnd : ℕ
-  stretchEnd = endBy (ℕ-discrete (p .ss + p .gg) (p .ii + p .jj)) (ℕ-discrete ((ti + last + p .ss) % 2) 1) last
+  stretchEnd =
+      endBy (ℕ-discrete (p .ss + p .gg) (p .ii + p .jj)) (ℕ-discrete ((ti + last + p .ss) % 2) 1) last
 
   pub stretch-end-free : (t : ℕ) → Forbidden⁺ p ti t → SmallestFrom t (Free p ti) stretchEnd
   unfolding stretchEnd endBy
-  stretch-end-free t f = cases (ℕ-discrete (p .ss + p .gg) (p .ii + p .jj)) (ℕ-discrete ((ti + last + p .ss) % 2) 1)
+  stretch-end-free t f =
+      cases (ℕ-discrete (p .ss + p .gg) (p .ii + p .jj)) (ℕ-discrete ((ti + last + p .ss) % 2) 1)
     where
       at-end : last + p .ji ≡ ti + p .ii
       at-end = omega (arith, f .high)
 
-      cases : (a : Dec (p .ss + p .gg ≡ p .ii + p .jj)) (b : Dec ((ti + last + p .ss) % 2 ≡ 1)) → SmallestFrom t (Free p ti) (endBy a b last)
-      cases (yes a) (yes b) = free-at-last p ti t last f at-end (record { gap-zero = a; at-an-end = inr at-end; odd = b })
+      cases : (a : Dec (p .ss + p .gg ≡ p .ii + p .jj)) (b : Dec ((ti + last + p .ss) % 2 ≡ 1))
+          → SmallestFrom t (Free p ti) (endBy a b last)
+      cases (yes a) (yes b) =
+          free-at-last p ti t last f at-end (record { gap-zero = a; at-an-end = inr at-end; odd = b })
       cases (yes a) (no b) = free-after-last p ti t last f at-end (λ e. b (e .odd))
       cases (no a) b = free-after-last p ti t last f at-end (λ e. a (e .gap-zero))
 
@@ -55,7 +60,8 @@ module _ (p : Pair) (ti : ℕ) where
         not-after : x < stretchEnd → Dec (x ≤ t) → Free p ti t
         not-after h (yes l) f = free-on t l f
         not-after h (no l) f =
-            let k = stretch-end-free t (forbidden-iff p ti t .0 f) .least x (omega arith) (free-on x (le-refl x)) in omega arith
+            let s = stretch-end-free t (forbidden-iff p ti t .0 f) in
+            let k = s .least x (omega arith) (free-on x (le-refl x)) in omega arith
 
         cases : Dec (stretchEnd ≤ x) → stretchEnd ≤ x
         cases (yes h) = h

@@ -1,26 +1,25 @@
--- Each public function has one outcome: two results that fit its promise are equal. For `forbids`, a yes and a no to one statement exclude each other. For
--- `first_tick`, two smallest ticks are each no later than the other. Neither lends a table that can change. Assumes nothing.
-use mathlib.Core.Path.{_≡_, refl}
-use mathlib.Core.Bool.{Bool, true, false}
+-- Each public function has one outcome: two results that fit its promise are equal. For `forbids`, a yes and
+-- a no to one statement exclude each other. For `first_tick`, two smallest ticks are each no later than the
+-- other. Neither lends a table that can change. Assumes nothing.
+use mathlib.Core.Path.{_≡_}
+use mathlib.Core.Bool.{Bool}
 use mathlib.Core.List.{List}
 use Prim.Native.Nat.{ℕ, _/_}
 use lib.IntN.{pos, _-ℤ_}
 use lib.ListN.{length}
 use Rattle.hall.specs.Rule.{Forbidden, pair6, Answers}
 use Rattle.hall.specs.Ticks.{SmallestFrom, PermittedBy}
+use Rattle.hall.proofs.Answers.{answers-unique}
 use Rattle.hall.proofs.Ticks.{smallest-unique}
 use Rattle.rule.specs.Held.{heldPair, heldTick}
 
-pub answers-unique : (A : Type 0) (r r′ : Bool) → Answers r A → Answers r′ A → r ≡ r′
-answers-unique A true true a b = refl
-answers-unique A true false a b = absurd (b a)
-answers-unique A false true a b = absurd (a b)
-answers-unique A false false a b = refl
-
-pub forbids-unique : (ss gg ii jj ij ji ti tj : ℕ) (r r′ : Bool) → Answers r (Forbidden (pair6 ss gg ii jj ij ji) (pos tj -ℤ pos ti))
+pub forbids-unique : (ss gg ii jj ij ji ti tj : ℕ) (r r′ : Bool)
+    → Answers r (Forbidden (pair6 ss gg ii jj ij ji) (pos tj -ℤ pos ti))
     → Answers r′ (Forbidden (pair6 ss gg ii jj ij ji) (pos tj -ℤ pos ti)) → r ≡ r′
-forbids-unique ss gg ii jj ij ji ti tj = answers-unique (Forbidden (pair6 ss gg ii jj ij ji) (pos tj -ℤ pos ti))
+forbids-unique ss gg ii jj ij ji ti tj =
+    answers-unique (Forbidden (pair6 ss gg ii jj ij ji) (pos tj -ℤ pos ti))
 
-pub first-tick-unique : (held : List ℕ) (from : ℕ) {x x′ : ℕ} → SmallestFrom from (PermittedBy (length held / 7) (heldPair held) (heldTick held)) x
+pub first-tick-unique : (held : List ℕ) (from : ℕ) {x x′ : ℕ}
+    → SmallestFrom from (PermittedBy (length held / 7) (heldPair held) (heldTick held)) x
     → SmallestFrom from (PermittedBy (length held / 7) (heldPair held) (heldTick held)) x′ → x ≡ x′
 first-tick-unique held from s s′ = smallest-unique s s′

@@ -1,7 +1,8 @@
--- How many passes the search for a tick makes. A carrier whose stretch was left behind never holds the tick up again, and a pass that moves the tick leaves
--- behind the stretch of one carrier at least. So the number of held carriers whose stretch ends after the tick falls with every pass that moves it: it is
--- the measure of `first_tick`. It is at most the number k of held carriers, so at most k passes move the tick and one does not. Each
--- pass makes k pair tests, k (k + 1) at most in all. Assumes nothing.
+-- How many passes the search for a tick makes. A carrier whose stretch was left behind never holds the tick
+-- up again, and a pass that moves the tick leaves behind the stretch of one carrier at least. So the number
+-- of held carriers whose stretch ends after the tick falls with every pass that moves it: it is the measure
+-- of `first_tick`. It is at most the number k of held carriers, so at most k passes move the tick and one
+-- does not. Each pass makes k pair tests, k (k + 1) at most in all. Assumes nothing.
 use mathlib.Core.Path.{_≡_}
 use mathlib.Core.List.{List}
 use Prim.Native.Nat.{ℕ, zero, suc, _+_, _/_, _≤_, _<_, zero-le}
@@ -22,15 +23,18 @@ unfolding total
 total-falls zero f g h = le-refl 0
 total-falls (suc k) f g h = let r = total-falls k f g h in let q = h k in omega arith
 
-one-more-less : (a b x y : ℕ) {A : Type 0} → Dec A → a ≤ b → x ≤ y → (A → a < b) → (¬ A → x < y) → a + x < b + y
+one-more-less : (a b x y : ℕ) {A : Type 0}
+    → Dec A → a ≤ b → x ≤ y → (A → a < b) → (¬ A → x < y) → a + x < b + y
 one-more-less a b x y (yes h) before here f g = let k = f h in omega arith
 one-more-less a b x y (no h) before here f g = let k = g h in omega arith
 
-pub total-less : (k : ℕ) (f g : ℕ → ℕ) → ((i : ℕ) → f i ≤ g i) → (p : ℕ) → p < k → f p < g p → total k f < total k g
+pub total-less : (k : ℕ) (f g : ℕ → ℕ) → ((i : ℕ) → f i ≤ g i)
+    → (p : ℕ) → p < k → f p < g p → total k f < total k g
 unfolding total
 total-less zero f g h p l s = absurd (not-suc-le-zero l)
 total-less (suc k) f g h p l s =
-    one-more-less (total k f) (total k g) (f k) (g k) (decLt p k) (total-falls k f g h) (h k) (λ m. total-less k f g h p m s)
+    one-more-less (total k f) (total k g) (f k) (g k) (decLt p k) (total-falls k f g h) (h k)
+    (λ m. total-less k f g h p m s)
     (λ m. let e : p ≡ k = omega arith in rw e at s)
 
 -- ---- carriers whose stretch ends after a tick
@@ -66,7 +70,9 @@ module _ (held : List ℕ) where
 
   pub waiting-limit : (t : ℕ) → waiting t ≤ length held / 7
   unfolding waiting
-  waiting-limit t = let h = total-limit (length held / 7) (λ p. one (decLt t (end p))) 1 (λ p l. one-limit (decLt t (end p))) in omega arith
+  waiting-limit t =
+      let after : ℕ → ℕ = λ p. one (decLt t (end p)) in
+      let h = total-limit (length held / 7) after 1 (λ p l. one-limit (decLt t (end p))) in omega arith
 
   -- a pass that moves the tick leaves one more stretch behind
   pub waiting-falls : (t x : ℕ) → t ≤ x → PassedOne held t x → waiting x < waiting t
@@ -74,10 +80,13 @@ module _ (held : List ℕ) where
   waiting-falls t x h o =
       total-less (length held / 7) (λ p. one (decLt x (end p))) (λ p. one (decLt t (end p)))
       (λ p. one-falls (decLt x (end p)) (decLt t (end p)) (λ l. omega arith)) (o .place) (o .inside)
-      (one-less (decLt x (end (o .place))) (decLt t (end (o .place))) (λ l. omega (arith, by)) (omega (arith, after, o .not-before)))
+      (one-less (decLt x (end (o .place))) (decLt t (end (o .place))) (λ l. omega (arith, by))
+      (omega (arith, after, o .not-before)))
     where
       after : o .tick < end (o .place)
-      after = end-after (heldPair held (o .place)) (heldTick held (o .place)) (o .tick) x (o .held-up) (o .free-on)
+      after =
+          end-after (heldPair held (o .place)) (heldTick held (o .place)) (o .tick) x
+          (o .held-up) (o .free-on)
 
       by : end (o .place) ≤ x
       by = end-by (heldPair held (o .place)) (heldTick held (o .place)) (o .tick) x (o .held-up) (o .free-on)

@@ -1,9 +1,13 @@
--- What a tick on the way to the first permitted one satisfies. Inner functions promise these; no public promise cites them.
---     Reached    x is no earlier than a given tick, and no tick from that one up and before x is permitted
---     PassedOne  between a given tick and x a held carrier was passed for good: it does not permit some tick from the given one up, and
---                permits every tick from x up
---     Swept      x, from a given tick: Reached against all held carriers; if it is that very tick, then it is permitted by all, and if it is
---                later, PassedOne; and it stays within what a start tick and a distance of 32 bits can make
+-- What a tick on the way to the first permitted one (rule 5.3) satisfies. Inner functions promise these; no
+-- public promise cites them.
+--     Reached            x is no earlier than a given tick, and no tick from that one up and before x is
+--                        permitted
+--     PermittedByHeld    tick x is permitted by the first n held carriers
+--     PassedOne          between a given tick and x a held carrier was passed for good: it does not permit
+--                        some tick from the given one up, and permits every tick from x up
+--     Swept              x, from a given tick: Reached against all held carriers; if it is that very tick,
+--                        then it is permitted by all, and if it is later, PassedOne; and it stays within what
+--                        a start tick and a distance of 32 bits can make
 use mathlib.Core.Path.{_≡_}
 use mathlib.Core.List.{List}
 use Prim.Native.Nat.{ℕ, _/_, _≤_, _<_}
@@ -17,7 +21,6 @@ pub record Reached (from : ℕ) (Permits : ℕ → Type 0) (x : ℕ) : Type 0 wh
   pub not-before : from ≤ x
   pub none-before : (y : ℕ) → from ≤ y → Permits y → x ≤ y
 
--- tick x is permitted by the first n held carriers
 abbrev pub PermittedByHeld : List ℕ → ℕ → ℕ → Type 0
 PermittedByHeld held n = PermittedBy n (heldPair held) (heldTick held)
 

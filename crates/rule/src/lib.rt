@@ -1,10 +1,13 @@
-// The safe-delay rule of page 01 on plain numbers, and the first tick that it leaves free. Nothing here refuses: every number of the
-// types is served, and the sums are made in u64, where none of them can overflow. 8,589,934,591 is the largest tick that comes up: one past
-// the latest goal tick that a start tick and a distance of 32 bits can make.
+// The pair rule (rules 4.1 to 4.9) on plain numbers, and the first tick that it leaves free (rules 5.2 and
+// 5.3). Nothing here refuses: every number of the types is served, and the sums are made in u64, where none
+// of them can overflow. 8,589,934,591 is the largest tick that comes up: one past the latest goal tick that a
+// start tick and a distance of 32 bits can make.
 //
-// Work of `first_tick` against k held carriers: a carrier moves the tick at most once, since it permits every tick after the move. So at
-// most k sweeps change the tick, one more changes nothing, and each makes k pair tests: k (k + 1) tests at most, 4,032 for the 63 carriers
-// before the last one of a job. That the sweeps are so few is proved: it is the measure of the loop (proofs/Work.antt).
+// Work of `first_tick` against k held carriers: a carrier moves the tick at most once, since it permits every
+// tick after the move. So at most k sweeps change the tick, one more changes nothing, and each makes k pair
+// tests: k (k + 1) tests at most, 4,032 for the 63 carriers before the last one of a job. That the sweeps are
+// so few is proved: it is the measure of the loop (proofs/Work.antt).
+use hall::Job;
 ghost use Prim.Native.Nat.{_+_, _*_, _/_, _≤_, _<_};
 ghost use lib.IntN.{pos, _-ℤ_};
 ghost use lib.ListN.{length};
@@ -14,7 +17,8 @@ ghost use Rattle.hall.specs.Ticks.{SmallestFrom, PermittedBy};
 ghost use Rattle.rule.specs.Held.{heldPair, heldTick};
 ghost use Rattle.rule.specs.Reach.{Swept};
 
-// Whether the rule forbids that i starts at ti and j at tj, with additions only.
+// Whether the rule forbids that i starts at ti and j at tj, with additions only. All sums are made before the
+// tests; the mark for "no walk" between the starts is tested first, and then none of them decides (rule 4.5).
 fn forbidden(ss: u32, gg: u32, ii: u32, jj: u32, ij: u32, ji: u32, ti: u32, tj: u64) -> bool
     requires { ⌜ tj ≤ 8589934591 ⌝ }
     ensures { λ r. ⌜ Answers r (Forbidden (pair6 ss gg ii jj ij ji) (pos tj -ℤ pos ti)) ⌝ }
@@ -26,7 +30,7 @@ fn forbidden(ss: u32, gg: u32, ii: u32, jj: u32, ij: u32, ji: u32, ti: u32, tj: 
     let high = tj + ji as u64;
     let high_end = ti as u64 + ii as u64;
     let parity = (ti as u64 + tj + ss as u64) % 2;
-    if ss == 65535 {
+    if ss == Job::NO_WALK as u32 {
         return false;
     }
     if starts_goals > owns {
@@ -53,7 +57,8 @@ fn forbidden(ss: u32, gg: u32, ii: u32, jj: u32, ij: u32, ji: u32, ti: u32, tj: 
     true
 }
 
-// Whether the rule forbids that i starts at tick ti and j at tick tj, where the six numbers are the pair's distances.
+// Whether the rule forbids that i starts at tick ti and j at tick tj, where the six numbers are the pair's
+// distances (rule 4.2).
 pub fn forbids(ss: u16, gg: u16, ii: u16, jj: u16, ij: u16, ji: u16, ti: u32, tj: u32) -> bool
     ensures { λ r. ⌜ Answers r (Forbidden (pair6 ss gg ii jj ij ji) (pos tj -ℤ pos ti)) ⌝ }
 {
@@ -69,8 +74,8 @@ pub fn forbids(ss: u16, gg: u16, ii: u16, jj: u16, ij: u16, ji: u16, ti: u32, tj
     )
 }
 
-// The smallest tick from a given one up that a single held carrier permits, in one jump past its stretch. Its last tick is free already
-// where the exception holds there.
+// The smallest tick from a given one up that a single held carrier permits, in one jump past its stretch. The
+// stretch's last tick is free already where the exception holds there (rule 4.8).
 fn free_from(ss: u32, gg: u32, ii: u32, jj: u32, ij: u32, ji: u32, ti: u32, from: u64) -> u64
     requires { ⌜ from ≤ 8589934591 ⌝ }
     ensures { λ r. ⌜ SmallestFrom from (λ x. Permitted (pair6 ss gg ii jj ij ji) (pos x -ℤ pos ti)) r ⌝ }
@@ -96,7 +101,12 @@ fn free_from(ss: u32, gg: u32, ii: u32, jj: u32, ij: u32, ji: u32, ti: u32, from
 // The same for the carrier that is held at a place.
 fn free_at(held: &[u32], place: usize, from: u64) -> u64
     requires { ⌜ (7 * place + 6 < length (now held)) × (from ≤ 8589934591) ⌝ }
-    ensures { λ r. ⌜ SmallestFrom from (λ x. Permitted (heldPair (now (held .entry)) place) (pos x -ℤ pos (heldTick (now (held .entry)) place))) r ⌝ }
+    ensures { λ r. ⌜ SmallestFrom
+        from
+        (λ x. Permitted
+        (heldPair (now (held .entry)) place)
+        (pos x -ℤ pos (heldTick (now (held .entry)) place)))
+        r ⌝ }
 {
     let at = 7 * place;
     let ti = held[at];
@@ -124,10 +134,17 @@ fn sweep(held: &[u32], from: u64) -> u64
     tick
 }
 
-// The smallest tick from a given one up that every held carrier permits. Seven numbers stand for each: its start tick, then the six
-// distances of the pair that it makes with the new carrier, as in `forbids`. What is left over after the last seven is not read.
+// The smallest tick from a given one up that every held carrier permits. Seven numbers stand for each: its
+// start tick, then the six distances of the pair that it makes with the new carrier, as in `forbids`. What is
+// left over after the last seven is not read.
 pub fn first_tick(held: &[u32], from: u32) -> u64
-    ensures { λ r. ⌜ SmallestFrom from (PermittedBy (length (now (held .entry)) / 7) (heldPair (now (held .entry))) (heldTick (now (held .entry)))) r ⌝ }
+    ensures { λ r. ⌜ SmallestFrom
+        from
+        (PermittedBy
+        (length (now (held .entry)) / 7)
+        (heldPair (now (held .entry)))
+        (heldTick (now (held .entry))))
+        r ⌝ }
 {
     let mut tick = from as u64;
     let mut next = sweep(held, tick);

@@ -1,32 +1,40 @@
--- Each question has one outcome. Of a filled table every place is decided: it holds a distance, which is unique, or zero, or what came in. The lowest carrier
--- that no walk takes to its goal is unique, since each of two would be no later than the other. Assumes nothing.
-use mathlib.Core.Path.{_≡_, refl, sym, _∙_, subst}
-use mathlib.Core.Logic.{_⊎_, inl, inr}
+-- Each question has one outcome. Of a filled table every place is decided: it holds a distance, which is
+-- unique, or zero, or what came in. The lowest carrier without a walk is unique, since each of two would be
+-- no higher than the other; and a table that has one is not answered without it. Assumes nothing.
+--     filling-unique     two outcomes of `fill` that fit its promise are equal
+--     reaching-unique    so are two of `first_unreached`
+use mathlib.Core.Path.{_≡_, refl, sym, _∙_, ap, subst}
+use mathlib.Core.Logic.{inl, inr}
 use mathlib.Core.Bool.{Bool, true, false}
 use mathlib.Core.List.{List}
-use Prim.Native.Nat.{ℕ, _+_, _*_, _/_, _%_, _≤_, _<_}
-use native.Mathlib.Decide.{ℕ-discrete, decLt}
+use Prim.Native.Nat.{ℕ, _/_, _%_, _≤_, _<_}
+use native.Mathlib.Decide.{decLt}
 use native.Mathlib.Omega.{arith}
-use lib.ListN.{length, getD}
+use lib.ListN.{getD}
 use lib.Seq.{ext-getD}
-use Rattle.hall.specs.Plan.{TablesOf, tablesIn}
+use Rattle.hall.specs.Limits.{carrierLimit, blockLength, tableLength}
+use Rattle.hall.specs.Floor.{Network}
+use Rattle.hall.specs.Job.{moveCount}
 use Rattle.hall.proofs.Walks.{distance-unique}
 use Rattle.hall.proofs.Lowest.{dec-and}
-use Rattle.tables.specs.Filling.{Used, Filled, Filling, Unreached, Reaching, looked, unserved}
+use Rattle.tables.specs.declared.Reach.{Reach}
+use Rattle.tables.specs.declared.Reach.the-variants.{All, Lost}
+use Rattle.tables.specs.Filling.{Used, TableFilled, Filling, FirstLost, NoneLost, looked, unserved}
+use Rattle.tables.specs.Filling.{saidReach, Reaching}
 
-module _ (nodes : ℕ) (lanes moves table : List ℕ) where
-  module _ (t u : List ℕ) (f : Filled nodes lanes moves table t) (g : Filled nodes lanes moves table u) where
+module _ (N : Network) (moves table : List ℕ) where
+  module _ (t u : List ℕ) (f : TableFilled N moves table t) (g : TableFilled N moves table u) where
     -- at the place of two carriers, in whichever block it stands
-    same-used : (x : ℕ) → x < 12288 → Used (length moves / 2) x → getD t x 0 ≡ getD u x 0
-    same-used x h y = cases (decLt x 4096) (decLt x 8192)
+    same-used : (x : ℕ) → x < tableLength → Used (moveCount moves) x → getD t x 0 ≡ getD u x 0
+    same-used x h y = cases (decLt x blockLength) (decLt x 8192)
       where
         i : ℕ
-        i = x % 4096 / 64
+        i = x % blockLength / carrierLimit
 
         j : ℕ
-        j = x % 64
+        j = x % carrierLimit
 
-        cases : Dec (x < 4096) → Dec (x < 8192) → getD t x 0 ≡ getD u x 0
+        cases : Dec (x < blockLength) → Dec (x < 8192) → getD t x 0 ≡ getD u x 0
         cases (yes a) b =
             subst (λ (z : ℕ). getD t z 0 ≡ getD u z 0) (omega arith)
             (distance-unique (f .true-distances .starts i j (y .first) (y .second)) (g .true-distances .starts i j (y .first) (y .second)))
@@ -38,9 +46,9 @@ module _ (nodes : ℕ) (lanes moves table : List ℕ) where
             (distance-unique (f .true-distances .goals i j (y .first) (y .second)) (g .true-distances .goals i j (y .first) (y .second)))
 
     same-place : (x : ℕ) → getD t x 0 ≡ getD u x 0
-    same-place x = cases (decLt x 12288) (dec-and (decLt (x % 4096 / 64) (length moves / 2)) (decLt (x % 64) (length moves / 2)))
+    same-place x = cases (decLt x tableLength) (dec-and (decLt (x % blockLength / carrierLimit) (moveCount moves)) (decLt (x % carrierLimit) (moveCount moves)))
       where
-        cases : Dec (x < 12288) → Dec ((x % 4096 / 64 < length moves / 2) × (x % 64 < length moves / 2)) → getD t x 0 ≡ getD u x 0
+        cases : Dec (x < tableLength) → Dec ((x % blockLength / carrierLimit < moveCount moves) × (x % carrierLimit < moveCount moves)) → getD t x 0 ≡ getD u x 0
         cases (yes a) (yes b) = same-used x a (record { first = b .0; second = b .1 })
         cases (yes a) (no b) = f .table-left .unused x a (λ y. b (y .first, y .second)) ∙ sym (g .table-left .unused x a (λ y. b (y .first, y .second)))
         cases (no a) b = f .table-left .beyond x (omega arith) ∙ sym (g .table-left .beyond x (omega arith))
@@ -48,25 +56,31 @@ module _ (nodes : ℕ) (lanes moves table : List ℕ) where
     filled-unique : t ≡ u
     filled-unique = ext-getD 0 t u (f .table-left .size ∙ sym (g .table-left .size)) (λ x h. same-place x)
 
-  pub filling-unique : (r r′ : Bool) (t u : List ℕ) → Filling nodes lanes moves table t r → Filling nodes lanes moves table u r′ → (r ≡ r′) × (t ≡ u)
+  pub filling-unique : (r r′ : Bool) (t u : List ℕ) → Filling N moves table t r → Filling N moves table u r′ → (r ≡ r′) × (t ≡ u)
   filling-unique true true t u f g = (refl, filled-unique t u f g)
   filling-unique true false t u f g = absurd (g .unserved (f .served))
   filling-unique false true t u f g = absurd (f .unserved (g .served))
   filling-unique false false t u f g = (refl, f .kept ∙ sym (g .kept))
 
--- the first of two is not before the second
-not-before : (table : List ℕ) (k r r′ : ℕ) → Unreached table k r → Unreached table k r′ → r′ ≤ r
-not-before table k r r′ a b = cases (decLt r r′)
+-- of two lowest carriers the first is not below the second
+not-below : {table : List ℕ} {carriers c c′ : ℕ} → FirstLost table carriers c → FirstLost table carriers c′ → c′ ≤ c
+not-below {c = c} {c′ = c′} a b = cases (decLt c c′)
   where
-    cases : Dec (r < r′) → r′ ≤ r
-    cases (yes l) = absurd (b .none-before r l (a .marked (omega (arith, b .within))))
+    cases : Dec (c < c′) → c′ ≤ c
+    cases (yes l) = absurd (b .none-lower c l (a .marked))
     cases (no l) = omega arith
 
-pub reaching-unique : (table : List ℕ) (k r r′ : ℕ) → Reaching table k r → Reaching table k r′ → r ≡ r′
-reaching-unique table k r r′ (looked t c a) (looked t′ c′ b) = omega (arith, not-before table k r r′ a b, not-before table k r′ r b a)
-reaching-unique table k r r′ (looked t c a) (unserved (inl x) e) = absurd (let y : ⊥ = omega arith in y)
-reaching-unique table k r r′ (looked t c a) (unserved (inr x) e) = absurd (let y : ⊥ = omega arith in y)
-reaching-unique table k r r′ (unserved (inl x) e) (looked t c a) = absurd (let y : ⊥ = omega arith in y)
-reaching-unique table k r r′ (unserved (inr x) e) (looked t c a) = absurd (let y : ⊥ = omega arith in y)
-reaching-unique table k r r′ (unserved (inl x) e) (unserved y e′) = e ∙ sym e′
-reaching-unique table k r r′ (unserved (inr x) e) (unserved y e′) = e ∙ sym e′
+-- a carrier is answered or none, never both
+not-both : {table : List ℕ} {carriers c : ℕ} → FirstLost table carriers c → NoneLost table carriers → ⊥
+not-both {c = c} a (looked t k none) = none c (a .is-carrier) (a .marked)
+not-both a (unserved (inl short)) = omega (arith, a .whole-table)
+not-both a (unserved (inr many)) = omega (arith, a .few-carriers)
+
+pub reaching-unique : (table : List ℕ) (carriers : ℕ) (r r′ : Reach) →
+    Reaching table carriers (saidReach r) → Reaching table carriers (saidReach r′) → r ≡ r′
+reaching-unique table carriers All All a b = refl
+reaching-unique table carriers All (Lost c) a b = absurd (not-both (b .1) a)
+reaching-unique table carriers (Lost c) All a b = absurd (not-both (a .1) b)
+reaching-unique table carriers (Lost c) (Lost c′) a b =
+    let same : c .0 ≡ c′ .0 = omega (arith, not-below (a .1) (b .1), not-below (b .1) (a .1)) in
+    ap (λ (n : ℕ). Lost (record { 0 = n })) same

@@ -1,4 +1,5 @@
--- The kind of a byte, by where its number lies. Each law turns the tests of `kindOf` one by one. Assumes nothing.
+-- The kind of a byte, by where its number lies. Each law turns the tests of `kindOf` one by one. Assumes
+-- nothing.
 use mathlib.Core.Path.{_≡_, refl}
 use mathlib.Core.Logic.{_≢_}
 use Prim.Native.Nat.{ℕ, _≤_, _<_}

@@ -1,4 +1,5 @@
--- The counts of the sections: each of the page's four tests is that the count lies between two numbers, and a count that was read does. Assumes nothing.
+-- The counts of the sections: each of the four tests of 2 is that the count lies between two numbers, and a
+-- count that was read does. Assumes nothing.
 use mathlib.Core.Path.{_≡_, refl, sym, _∙_, ap}
 use mathlib.Core.List.{List}
 use mathlib.Core.Bool.{Bool, true, false}

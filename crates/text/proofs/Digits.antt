@@ -1,5 +1,6 @@
--- The further digits of a number, one a turn. What is left to be read from the cursor on gives what the whole was to give (`same`); the value so far leaves
--- room for the digits that may still come (`room`), so that no number passes 9,999. The measure is how many digits may still come. Assumes nothing.
+-- The further digits of a number, one a turn. What is left to be read from the cursor on gives what the whole
+-- was to give (`same`); the value so far leaves room for the digits that may still come (`room`), so that no
+-- number passes 9,999. The measure is how many digits may still come. Assumes nothing.
 use mathlib.Core.Path.{_≡_, refl, sym, _∙_, ap}
 use mathlib.Core.List.{List, [], _∷_}
 use Prim.Native.Nat.{ℕ, zero, suc, _+_, _*_, _-_, _≤_, _<_}

@@ -1,5 +1,6 @@
--- One line of a section: its form, then its checks, and what stands in the table then. An entry is stored before it is judged, so that the table's front part is
--- the entries so far; the checks look at no more than that (Fronts.antt). Assumes nothing.
+-- One line of a section: its form, then its checks, and what stands in the table then. An entry is stored
+-- before it is judged, so that the table's front part is the entries so far; the checks look at no more than
+-- that (Fronts.antt). Assumes nothing.
 use mathlib.Core.Path.{_≡_, refl, sym, _∙_, ap}
 use mathlib.Core.List.{List, [], _∷_, _++_, append-assoc}
 use mathlib.Core.Bool.{Bool, true, false}
@@ -20,7 +21,7 @@ use Rattle.text.specs.declared.sections.Passed.{Passed}
 use Rattle.text.specs.Answers.{Numbering, Pairing}
 use Rattle.text.specs.Lines.{Taken, got, bad, takeCount, takeOne, takePair, takeEntry}
 use Rattle.text.specs.Reading.{Section, read, refused, counted, entry}
-use Rattle.text.specs.Parts.{between, Filling}
+use Rattle.text.specs.Parts.{between, PartFilling}
 
 -- ---- a count
 
@@ -83,7 +84,7 @@ module _ (l : List ℕ) (k a b : ℕ) where
 
 module _ (verdict : List ℕ → ℕ → Verdict) (front : (l : List ℕ) (k : ℕ) → verdict (take (2 * (k + 1)) l) k ≡ verdict l k) (text t : List ℕ) (line k : ℕ) (l : List ℕ) where
   pub pair-malformed : Pairing text (takePair t) Paired.Bad
-      → Filling text (entry takePair verdict line k (take (2 * k) l) t) (2 * (k + 1)) l l (Passed.Refused (record { fault = Malformed; place = line }))
+      → PartFilling text (entry takePair verdict line k (take (2 * k) l) t) (2 * (k + 1)) l l (Passed.Refused (record { fault = Malformed; place = line }))
   pair-malformed p = record { answer = sym (entry-malformed takePair verdict line k (take (2 * k) l) t (sym (p .taken))); kept = refl }
 
   module _ (inside : 2 * k + 1 < length l) (a b : ℕ) (next : Cursor) (p : Pairing text (takePair t) (Paired.Got a b next)) where
@@ -91,14 +92,14 @@ module _ (verdict : List ℕ → ℕ → Verdict) (front : (l : List ℕ) (k : �
     judged-so v e = rw (← pair-stored l k a b inside) (front (set (set l (2 * k) a) (2 * k + 1) b) k ∙ e)
 
     pub pair-faulty : (f : Fault) → verdict (set (set l (2 * k) a) (2 * k + 1) b) k ≡ Faulty f
-        → Filling text (entry takePair verdict line k (take (2 * k) l) t) (2 * (k + 1)) l (set (set l (2 * k) a) (2 * k + 1) b) (Passed.Refused (record { fault = f; place = line }))
+        → PartFilling text (entry takePair verdict line k (take (2 * k) l) t) (2 * (k + 1)) l (set (set l (2 * k) a) (2 * k + 1) b) (Passed.Refused (record { fault = f; place = line }))
     pair-faulty f e = record {
       answer = sym (entry-faulty takePair verdict line k (take (2 * k) l) t (a ∷ b ∷ []) (drop (next .at) text) (sym (p .taken)) f (judged-so (Faulty f) e));
       kept = pair-kept l k a b;
     }
 
     pub pair-fine : verdict (set (set l (2 * k) a) (2 * k + 1) b) k ≡ Fine
-        → Filling text (entry takePair verdict line k (take (2 * k) l) t) (2 * (k + 1)) l (set (set l (2 * k) a) (2 * k + 1) b) (Passed.On next)
+        → PartFilling text (entry takePair verdict line k (take (2 * k) l) t) (2 * (k + 1)) l (set (set l (2 * k) a) (2 * k + 1) b) (Passed.On next)
     pair-fine e = record {
       answer = rw (pair-stored l k a b inside) (sym (entry-fine takePair verdict line k (take (2 * k) l) t (a ∷ b ∷ []) (drop (next .at) text) (sym (p .taken)) (judged-so Fine e)));
       kept = pair-kept l k a b;
@@ -106,7 +107,7 @@ module _ (verdict : List ℕ → ℕ → Verdict) (front : (l : List ℕ) (k : �
 
 module _ (verdict : List ℕ → ℕ → Verdict) (front : (l : List ℕ) (k : ℕ) → verdict (take (k + 1) l) k ≡ verdict l k) (text t : List ℕ) (line k : ℕ) (l : List ℕ) where
   pub one-malformed : Numbering text (takeOne t) Numbered.Bad
-      → Filling text (entry takeEntry verdict line k (take k l) t) (k + 1) l l (Passed.Refused (record { fault = Malformed; place = line }))
+      → PartFilling text (entry takeEntry verdict line k (take k l) t) (k + 1) l l (Passed.Refused (record { fault = Malformed; place = line }))
   unfolding takeEntry
   one-malformed p = record { answer = sym (entry-malformed takeEntry verdict line k (take k l) t (rw (← p .taken))); kept = refl }
 
@@ -119,13 +120,13 @@ module _ (verdict : List ℕ → ℕ → Verdict) (front : (l : List ℕ) (k : �
     one-judged v e = rw (← one-stored l k a inside) (front (set l k a) k ∙ e)
 
     pub one-faulty : (f : Fault) → verdict (set l k a) k ≡ Faulty f
-        → Filling text (entry takeEntry verdict line k (take k l) t) (k + 1) l (set l k a) (Passed.Refused (record { fault = f; place = line }))
+        → PartFilling text (entry takeEntry verdict line k (take k l) t) (k + 1) l (set l k a) (Passed.Refused (record { fault = f; place = line }))
     one-faulty f e = record {
       answer = sym (entry-faulty takeEntry verdict line k (take k l) t (a ∷ []) (drop (next .at) text) read-so f (one-judged (Faulty f) e));
       kept = one-kept l k a;
     }
 
-    pub one-fine : verdict (set l k a) k ≡ Fine → Filling text (entry takeEntry verdict line k (take k l) t) (k + 1) l (set l k a) (Passed.On next)
+    pub one-fine : verdict (set l k a) k ≡ Fine → PartFilling text (entry takeEntry verdict line k (take k l) t) (k + 1) l (set l k a) (Passed.On next)
     one-fine e = record {
       answer = rw (one-stored l k a inside) (sym (entry-fine takeEntry verdict line k (take k l) t (a ∷ []) (drop (next .at) text) read-so (one-judged Fine e)));
       kept = one-kept l k a;

@@ -1,5 +1,5 @@
--- The checks of an entry look at no entry behind it: asked of a table, and of the part of it that ends with the entry, they say the same. Each number that
--- they look at stands in the front part. Assumes nothing.
+-- The checks of an entry look at no entry behind it: asked of a table, and of the part of it that ends with
+-- the entry, they say the same. Each number that they look at stands in the front part. Assumes nothing.
 use mathlib.Core.Path.{_≡_, refl, sym, _∙_, ap}
 use mathlib.Core.List.{List}
 use mathlib.Core.Bool.{Bool}
@@ -9,7 +9,8 @@ use lib.ListN.{getD, take}
 use lib.Seq.{getD-take}
 use Rattle.hall.specs.Floor.{lower, higher}
 use Rattle.text.specs.Bytes.{either}
-use Rattle.text.specs.Checks.{notRising, laneFaulty, laneVerdict, startOf, goalOf, offFloor, sameEnds, someBelow, sharesEnd, sharedEnd, moveVerdict, sameEntry, badOrder, orderVerdict}
+use Rattle.text.specs.Checks.{notRising, laneFaulty, laneVerdict, offFloor, sameEnds, someBelow, sharesEnd}
+use Rattle.text.specs.Checks.{sharedEnd, moveVerdict, sameEntry, badOrder, orderVerdict}
 
 module _ (l : List ℕ) where
   first-of : (n k : ℕ) → k < n → getD (take (2 * n) l) (2 * k) 0 ≡ getD l (2 * k) 0

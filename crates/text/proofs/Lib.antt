@@ -10,5 +10,6 @@ pub mod SectionLoops
 pub mod Counts
 pub mod ReadParts
 pub mod Wiping
+pub mod Left
 pub mod Outcomes
 pub mod Unique

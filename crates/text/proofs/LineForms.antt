@@ -1,5 +1,6 @@
--- The form of a line, put together from its parts: where a part lacks its form the line does, and otherwise the next part is read off what is left. Each
--- law rewrites by what the parts before have read. Assumes nothing.
+-- The form of a line, put together from its parts: where a part lacks its form the line does, and otherwise
+-- the next part is read off what is left. Each law rewrites by what the parts before have read. Assumes
+-- nothing.
 use mathlib.Core.Path.{_≡_, refl, sym, _∙_, ap}
 use mathlib.Core.List.{List, [], _∷_}
 use mathlib.Core.Bool.{true, false}

@@ -1,5 +1,6 @@
--- The parts of the reading put together: from the end of the text back to its first line, each part's count and entries were read, and what stands behind them was
--- read as the next part. The tables that were filled before may hold anything, so each part's answer is one for all of them. Assumes nothing.
+-- The parts of the reading put together: from the end of the text back to its first line, each part's count
+-- and entries were read, and what stands behind them was read as the next part. The tables that were filled
+-- before may hold anything, so each part's answer is one for all of them. Assumes nothing.
 use mathlib.Core.Path.{_≡_, refl, sym, _∙_, ap}
 use mathlib.Core.List.{List, [], _∷_}
 use Prim.Native.Nat.{ℕ, zero, suc, _+_, _*_, _≤_, _<_}
@@ -15,7 +16,7 @@ use Rattle.text.specs.declared.reader.Read.{Read}
 use Rattle.text.specs.Lines.{takePair, takeEntry, NODES, LANES, CARRIERS, ORDER}
 use Rattle.text.specs.Checks.{nodesFit, lanesFit, carriersFit, orderFits, laneVerdict, moveVerdict, orderVerdict}
 use Rattle.text.specs.Reading.{Section, read, refused, counted, entries, atEnd, fromOrder, fromCarriers, fromLanes, reading}
-use Rattle.text.specs.Parts.{between, countedBy, Filling, EndRead, OrderRead, CarriersRead, ReadAs}
+use Rattle.text.specs.Parts.{between, countedBy, PartFilling, EndRead, OrderRead, CarriersRead, ReadAs}
 use Rattle.text.proofs.Counts.{nodes-between, lanes-between, carriers-between, order-between, fits-same}
 use Rattle.text.proofs.SectionLoops.{kept-later}
 
@@ -41,7 +42,7 @@ module _ (text t : List ℕ) (n m k : ℕ) (order : List ℕ) where
   order-uncounted r e = record { answer = λ lanes moves. rw (counted-order e); fit = tt; beyond-order = refl }
 
   module _ (few : k ≤ 64) (c : ℕ) (next : Cursor) (e : countedBy text (Counted.Count c next) ≡ counted ORDER (between k k) (4 + m + k) t) (order′ : List ℕ) where
-    pub order-faulty : (r : Refusal) → Filling text (entries takeEntry (orderVerdict k) (5 + m + k) 0 [] k (drop (next .at) text)) k order order′ (Passed.Refused r)
+    pub order-faulty : (r : Refusal) → PartFilling text (entries takeEntry (orderVerdict k) (5 + m + k) 0 [] k (drop (next .at) text)) k order order′ (Passed.Refused r)
         → OrderRead n m k t order order′ (Read.Refused r)
     unfolding fromOrder
     order-faulty r f = record {
@@ -50,7 +51,7 @@ module _ (text t : List ℕ) (n m k : ℕ) (order : List ℕ) where
       beyond-order = kept-later order′ order k 64 few (f .kept);
     }
 
-    pub order-read : (end : Cursor) (r : Read) → Filling text (entries takeEntry (orderVerdict k) (5 + m + k) 0 [] k (drop (next .at) text)) k order order′ (Passed.On end)
+    pub order-read : (end : Cursor) (r : Read) → PartFilling text (entries takeEntry (orderVerdict k) (5 + m + k) 0 [] k (drop (next .at) text)) k order order′ (Passed.On end)
         → EndRead n m k (5 + m + k + k) (drop (end .at) text) r → OrderRead n m k t order order′ r
     unfolding fromOrder
     order-read end r f d = record {
@@ -71,7 +72,7 @@ module _ (text t : List ℕ) (n m : ℕ) (moves order : List ℕ) where
   carriers-uncounted r e = record { answer = λ lanes. rw (counted-carriers e); fit = tt; beyond-moves = refl; beyond-order = refl }
 
   module _ (k : ℕ) (next : Cursor) (few : k ≤ 64) (e : countedBy text (Counted.Count k next) ≡ counted CARRIERS (between 0 64) (3 + m) t) (moves′ : List ℕ) where
-    pub carriers-faulty : (r : Refusal) → Filling text (entries takePair (moveVerdict n) (4 + m) 0 [] k (drop (next .at) text)) (2 * k) moves moves′ (Passed.Refused r)
+    pub carriers-faulty : (r : Refusal) → PartFilling text (entries takePair (moveVerdict n) (4 + m) 0 [] k (drop (next .at) text)) (2 * k) moves moves′ (Passed.Refused r)
         → CarriersRead n m t moves moves′ order order (Read.Refused r)
     unfolding fromCarriers
     carriers-faulty r f = record {
@@ -82,7 +83,7 @@ module _ (text t : List ℕ) (n m : ℕ) (moves order : List ℕ) where
     }
 
     pub carriers-read : (behind : Cursor) (order′ : List ℕ) (r : Read)
-        → Filling text (entries takePair (moveVerdict n) (4 + m) 0 [] k (drop (next .at) text)) (2 * k) moves moves′ (Passed.On behind)
+        → PartFilling text (entries takePair (moveVerdict n) (4 + m) 0 [] k (drop (next .at) text)) (2 * k) moves moves′ (Passed.On behind)
         → OrderRead n m k (drop (behind .at) text) order order′ r → CarriersRead n m t moves moves′ order order′ r
     unfolding fromCarriers
     carriers-read behind order′ r f d = record {
@@ -104,7 +105,7 @@ module _ (text t : List ℕ) (n : ℕ) (lanes moves order : List ℕ) where
   lanes-uncounted r e = record { answer = rw (counted-lanes e); fit = tt; beyond-lanes = refl; beyond-moves = refl; beyond-order = refl }
 
   module _ (m : ℕ) (next : Cursor) (few : m ≤ 4096) (e : countedBy text (Counted.Count m next) ≡ counted LANES (between 0 4096) 2 t) (lanes′ : List ℕ) where
-    pub lanes-faulty : (r : Refusal) → Filling text (entries takePair (laneVerdict n) 3 0 [] m (drop (next .at) text)) (2 * m) lanes lanes′ (Passed.Refused r)
+    pub lanes-faulty : (r : Refusal) → PartFilling text (entries takePair (laneVerdict n) 3 0 [] m (drop (next .at) text)) (2 * m) lanes lanes′ (Passed.Refused r)
         → ReadAs (fromLanes n t) lanes lanes′ moves moves order order (Read.Refused r)
     unfolding fromLanes
     lanes-faulty r f = record {
@@ -116,7 +117,7 @@ module _ (text t : List ℕ) (n : ℕ) (lanes moves order : List ℕ) where
     }
 
     pub lanes-read : (behind : Cursor) (moves′ order′ : List ℕ) (r : Read)
-        → Filling text (entries takePair (laneVerdict n) 3 0 [] m (drop (next .at) text)) (2 * m) lanes lanes′ (Passed.On behind)
+        → PartFilling text (entries takePair (laneVerdict n) 3 0 [] m (drop (next .at) text)) (2 * m) lanes lanes′ (Passed.On behind)
         → CarriersRead n m (drop (behind .at) text) moves moves′ order order′ r → ReadAs (fromLanes n t) lanes lanes′ moves moves′ order order′ r
     unfolding fromLanes
     lanes-read behind moves′ order′ r f d = record {

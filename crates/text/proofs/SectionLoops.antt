@@ -1,5 +1,6 @@
--- The lines of a section, one a turn. What is left to be read from the cursor on, with the table's front part as the entries before, gives what the whole was to
--- give; behind that part the table is as it came. The measure is how many lines are left. `upto k` is how many numbers k entries have. Assumes nothing.
+-- The lines of a section, one a turn. What is left to be read from the cursor on, with the table's front part
+-- as the entries before, gives what the whole was to give; behind that part the table is as it came. The
+-- measure is how many lines are left. `upto k` is how many numbers k entries have. Assumes nothing.
 use mathlib.Core.Path.{_≡_, refl, sym, _∙_, ap}
 use mathlib.Core.List.{List, [], _∷_}
 use Prim.Native.Nat.{ℕ, zero, suc, _+_, _*_, _-_, _≤_, _<_}
@@ -13,7 +14,7 @@ use Rattle.text.specs.declared.checks.Verdict.{Verdict}
 use Rattle.text.specs.declared.sections.Passed.{Passed}
 use Rattle.text.specs.Lines.{Taken}
 use Rattle.text.specs.Reading.{Section, read, refused, entry, entries}
-use Rattle.text.specs.Parts.{Filling}
+use Rattle.text.specs.Parts.{PartFilling}
 
 -- what two tables share behind a place they share behind a later one
 pub kept-later : (l m : List ℕ) (i j : ℕ) → i ≤ j → drop i l ≡ drop i m → drop j l ≡ drop j m
@@ -45,7 +46,7 @@ module _ (form : List ℕ → Taken (List ℕ)) (verdict : List ℕ → ℕ → 
     kept-on e = e ∙ kept-later table table₀ (upto k) (upto (k + 1)) (rises k (k + 1) (omega arith)) (so-far .kept)
 
     pub lines-next : (next : Cursor) → length table′ ≡ length table
-        → Filling text (entry form verdict (first + k) k (take (upto k) table) (drop (here .at) text)) (upto (k + 1)) table table′ (Passed.On next)
+        → PartFilling text (entry form verdict (first + k) k (take (upto k) table) (drop (here .at) text)) (upto (k + 1)) table table′ (Passed.On next)
         → LinesSoFar form verdict upto text start first count table₀ table′ next (k + 1)
     unfolding entries
     lines-next next long f = record {
@@ -59,8 +60,8 @@ module _ (form : List ℕ → Taken (List ℕ)) (verdict : List ℕ → ℕ → 
     }
 
     pub lines-refused : (r : Refusal)
-        → Filling text (entry form verdict (first + k) k (take (upto k) table) (drop (here .at) text)) (upto (k + 1)) table table′ (Passed.Refused r)
-        → Filling text (entries form verdict first 0 [] count (drop start text)) (upto count) table₀ table′ (Passed.Refused r)
+        → PartFilling text (entry form verdict (first + k) k (take (upto k) table) (drop (here .at) text)) (upto (k + 1)) table table′ (Passed.Refused r)
+        → PartFilling text (entries form verdict first 0 [] count (drop start text)) (upto count) table₀ table′ (Passed.Refused r)
     unfolding entries
     lines-refused r f = record {
       answer =
@@ -71,7 +72,7 @@ module _ (form : List ℕ → Taken (List ℕ)) (verdict : List ℕ → ℕ → 
     }
 
   pub lines-end : (table : List ℕ) (here : Cursor) (k : ℕ) → count ≤ k → LinesSoFar form verdict upto text start first count table₀ table here k
-      → Filling text (entries form verdict first 0 [] count (drop start text)) (upto count) table₀ table (Passed.On here)
+      → PartFilling text (entries form verdict first 0 [] count (drop start text)) (upto count) table₀ table (Passed.On here)
   unfolding entries
   lines-end table here k past so-far =
       let all : k ≡ count = omega (arith, so-far .few) in

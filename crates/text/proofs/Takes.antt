@@ -1,5 +1,6 @@
--- What is read at a place of the text: the rest from there on is the byte that stands there and the rest behind it, so that the byte's kind decides.
--- A digit's byte lies from 48 to 57, so that its value is below 10. Assumes nothing.
+-- What is read at a place of the text: the rest from there on is the byte that stands there and the rest
+-- behind it, so that the byte's kind decides. A digit's byte lies from 48 to 57, so that its value is below
+-- 10. Assumes nothing.
 use mathlib.Core.Path.{_≡_, refl, sym, _∙_, ap}
 use mathlib.Core.List.{List, [], _∷_}
 use mathlib.Core.Bool.{Bool, true, false}

@@ -1,4 +1,5 @@
--- What the checks of a line come to where the tests on the way have fallen out one way or the other. Each law turns the tests one by one. Assumes nothing.
+-- What the checks of a line come to where the tests on the way have fallen out one way or the other. Each law
+-- turns the tests one by one. Assumes nothing.
 use mathlib.Core.Path.{_≡_, refl, sym, _∙_, ap}
 use mathlib.Core.List.{List}
 use mathlib.Core.Bool.{Bool, true, false}
@@ -10,10 +11,12 @@ use borrow.Author.Tests.{le-ltb, lt-ltb, le-leb, lt-leb, eq-eqb, ne-eqb}
 use lib.Dec.{leb, ltb, eqb}
 use lib.ListN.{getD}
 use Rattle.hall.specs.Floor.{lower, higher}
+use Rattle.hall.specs.Job.{startIn, goalIn}
 use Rattle.hall.specs.declared.Fault.the-variants.{BadLane, OffFloor, SameEnds, SharedEnd, BadOrder}
 use Rattle.text.specs.declared.checks.Verdict.the-variants.{Fine, Faulty}
 use Rattle.text.specs.Bytes.{pick, either}
-use Rattle.text.specs.Checks.{notRising, laneFaulty, laneVerdict, startOf, goalOf, offFloor, sameEnds, someBelow, sharesEnd, sharedEnd, moveVerdict, sameEntry, badOrder, orderVerdict}
+use Rattle.text.specs.Checks.{notRising, laneFaulty, laneVerdict, offFloor, sameEnds, someBelow, sharesEnd}
+use Rattle.text.specs.Checks.{sharedEnd, moveVerdict, sameEntry, badOrder, orderVerdict}
 
 -- ---- lanes
 
@@ -90,38 +93,38 @@ module _ (f : ℕ → Bool) where
 -- ---- moves
 
 module _ (moves : List ℕ) (i : ℕ) where
-  pub shares-start : (e : ℕ) → startOf moves e ≡ startOf moves i → sharesEnd moves i e ≡ true
-  shares-start e h = rw (eq-eqb (startOf moves e) (startOf moves i) h)
+  pub shares-start : (e : ℕ) → startIn moves e ≡ startIn moves i → sharesEnd moves i e ≡ true
+  shares-start e h = rw (eq-eqb (startIn moves e) (startIn moves i) h)
 
-  pub shares-goal : (e : ℕ) → goalOf moves e ≡ goalOf moves i → sharesEnd moves i e ≡ true
-  shares-goal e h = rw (eq-eqb (goalOf moves e) (goalOf moves i) h) (either-true (eqb (startOf moves e) (startOf moves i)))
+  pub shares-goal : (e : ℕ) → goalIn moves e ≡ goalIn moves i → sharesEnd moves i e ≡ true
+  shares-goal e h = rw (eq-eqb (goalIn moves e) (goalIn moves i) h) (either-true (eqb (startIn moves e) (startIn moves i)))
 
-  pub shares-none : (e : ℕ) → (startOf moves e ≡ startOf moves i → ⊥) → (goalOf moves e ≡ goalOf moves i → ⊥) → sharesEnd moves i e ≡ false
-  shares-none e h g = rw (ne-eqb (startOf moves e) (startOf moves i) h, ne-eqb (goalOf moves e) (goalOf moves i) g)
+  pub shares-none : (e : ℕ) → (startIn moves e ≡ startIn moves i → ⊥) → (goalIn moves e ≡ goalIn moves i → ⊥) → sharesEnd moves i e ≡ false
+  shares-none e h g = rw (ne-eqb (startIn moves e) (startIn moves i) h, ne-eqb (goalIn moves e) (goalIn moves i) g)
 
   module _ (nodes : ℕ) where
-    pub move-start-off : nodes ≤ startOf moves i → moveVerdict nodes moves i ≡ Faulty OffFloor
+    pub move-start-off : nodes ≤ startIn moves i → moveVerdict nodes moves i ≡ Faulty OffFloor
     unfolding moveVerdict offFloor
-    move-start-off h = rw (le-leb nodes (startOf moves i) h)
+    move-start-off h = rw (le-leb nodes (startIn moves i) h)
 
-    module _ (start : startOf moves i < nodes) where
-      pub move-goal-off : nodes ≤ goalOf moves i → moveVerdict nodes moves i ≡ Faulty OffFloor
+    module _ (start : startIn moves i < nodes) where
+      pub move-goal-off : nodes ≤ goalIn moves i → moveVerdict nodes moves i ≡ Faulty OffFloor
       unfolding moveVerdict offFloor
-      move-goal-off h = rw (lt-leb nodes (startOf moves i) start, le-leb nodes (goalOf moves i) h)
+      move-goal-off h = rw (lt-leb nodes (startIn moves i) start, le-leb nodes (goalIn moves i) h)
 
-      module _ (goal : goalOf moves i < nodes) where
-        pub move-same-ends : startOf moves i ≡ goalOf moves i → moveVerdict nodes moves i ≡ Faulty SameEnds
+      module _ (goal : goalIn moves i < nodes) where
+        pub move-same-ends : startIn moves i ≡ goalIn moves i → moveVerdict nodes moves i ≡ Faulty SameEnds
         unfolding moveVerdict offFloor sameEnds
-        move-same-ends e = rw (lt-leb nodes (startOf moves i) start, lt-leb nodes (goalOf moves i) goal, eq-eqb (startOf moves i) (goalOf moves i) e)
+        move-same-ends e = rw (lt-leb nodes (startIn moves i) start, lt-leb nodes (goalIn moves i) goal, eq-eqb (startIn moves i) (goalIn moves i) e)
 
-        module _ (differ : startOf moves i ≡ goalOf moves i → ⊥) where
+        module _ (differ : startIn moves i ≡ goalIn moves i → ⊥) where
           pub move-shared : sharedEnd moves i ≡ true → moveVerdict nodes moves i ≡ Faulty SharedEnd
           unfolding moveVerdict offFloor sameEnds
-          move-shared e = rw (lt-leb nodes (startOf moves i) start, lt-leb nodes (goalOf moves i) goal, ne-eqb (startOf moves i) (goalOf moves i) differ, e)
+          move-shared e = rw (lt-leb nodes (startIn moves i) start, lt-leb nodes (goalIn moves i) goal, ne-eqb (startIn moves i) (goalIn moves i) differ, e)
 
           pub move-fine : sharedEnd moves i ≡ false → moveVerdict nodes moves i ≡ Fine
           unfolding moveVerdict offFloor sameEnds
-          move-fine e = rw (lt-leb nodes (startOf moves i) start, lt-leb nodes (goalOf moves i) goal, ne-eqb (startOf moves i) (goalOf moves i) differ, e)
+          move-fine e = rw (lt-leb nodes (startIn moves i) start, lt-leb nodes (goalIn moves i) goal, ne-eqb (startIn moves i) (goalIn moves i) differ, e)
 
 -- ---- the order
 

@@ -1,5 +1,6 @@
--- A table that is zeroed from one place to another, one number a turn: in front of the first place and behind the last one it is as it was. The store at place i
--- falls on the first number behind the zeros. The measure is how many are left. Assumes nothing.
+-- A table that is zeroed from one place to another, one number a turn: in front of the first place and behind
+-- the last one it is as it was. The store at place i falls on the first number behind the zeros. The measure
+-- is how many are left. Assumes nothing.
 use mathlib.Core.Path.{_≡_, refl, sym, _∙_, ap}
 use mathlib.Core.List.{List, [], _∷_, _++_, append-assoc}
 use Prim.Native.Nat.{ℕ, zero, suc, _+_, _-_, _≤_, _<_}

@@ -1,7 +1,7 @@
--- The bytes of a job text (page 01, "Job text"). A text is a list of bytes, a byte a number below 256.
+-- The bytes of a job text (rule 7.5). A text is a list of bytes, a byte a number below 256.
 --     pick b x y     x if the test b holds, otherwise y
 --     both, either   both of two tests hold; one of them does
---     kindOf         "Each byte of the text is one of five kinds: digit, space, line feed, capital letter, other"
+--     kindOf         the kind of a byte, one of five: digit, space, line feed, capital letter, other
 --     isDigit, ..    whether a kind is the one that is looked for
 --     digitValue     the value of a digit: `0` is byte 48
 use mathlib.Core.Bool.{Bool, true, false}

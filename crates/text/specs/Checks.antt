@@ -1,9 +1,11 @@
--- The listed checks of one line as tests (page 01, "Refusal numbers", 2 to 7). They are the checks from numbers of the crate `hall` (its
--- specs/Refusals.antt), asked of the entries that have been read so far, the line's own the last of them; proofs/Tests.antt of the crate `written` says so.
---     nodesFit, ..    a count fits, so that 2 does not hold of it: "nodes not 1 to 1,024; lanes over 4,096; carriers over 64; order count not the carrier count"
---     notRising       "the lane does not exceed the one before", of lane k
+-- The listed checks of one line as tests (rules 7.9 and 8.2 to 8.7). They are the checks from numbers of the
+-- crate `hall` (its specs/Refusals.antt), asked of the entries that have been read so far, the line's own the
+-- last of them; proofs/Tests.antt of the crate `written` says so.
+--     nodesFit, lanesFit, carriersFit, orderFits    a count fits, so that 2 does not hold of it: there are
+--                     nodes, and no count is past its
+--                     limit; the order's is that of the carriers
+--     notRising       lane k does not exceed the one before it (rule 2.4)
 --     laneFaulty      3, at lane k
---     startOf, goalOf the start and the goal of carrier i, of the moves' numbers by turns
 --     offFloor        4, at carrier i
 --     sameEnds        5, at carrier i
 --     someBelow       some number below n passes a test
@@ -11,26 +13,28 @@
 --     sharedEnd       6, at carrier i
 --     sameEntry       the entry at place p is that of an earlier place
 --     badOrder        7, at place p
---     laneVerdict, moveVerdict, orderVerdict    "then the listed checks in number order"
+--     laneVerdict, moveVerdict, orderVerdict    what the checks of a line find: the lowest number that holds
 use mathlib.Core.List.{List}
 use mathlib.Core.Bool.{Bool, true, false}
-use Prim.Native.Nat.{ℕ, zero, suc, _+_, _*_}
+use Prim.Native.Nat.{ℕ, zero, suc}
 use lib.ListN.{getD}
 use lib.Dec.{leb, ltb, eqb}
 use Rattle.hall.specs.declared.Fault.the-variants.{BadLane, OffFloor, SameEnds, SharedEnd, BadOrder}
+use Rattle.hall.specs.Limits.{nodeLimit, laneLimit, carrierLimit}
 use Rattle.hall.specs.Floor.{lower, higher}
+use Rattle.hall.specs.Job.{startIn, goalIn}
 use Rattle.text.specs.declared.checks.Verdict.{Verdict}
 use Rattle.text.specs.declared.checks.Verdict.the-variants.{Fine, Faulty}
 use Rattle.text.specs.Bytes.{pick, both, either}
 
 unfoldable pub nodesFit : ℕ → Bool
-nodesFit n = both (leb 1 n) (leb n 1024)
+nodesFit n = both (leb 1 n) (leb n nodeLimit)
 
 unfoldable pub lanesFit : ℕ → Bool
-lanesFit m = leb m 4096
+lanesFit m = leb m laneLimit
 
 unfoldable pub carriersFit : ℕ → Bool
-carriersFit k = leb k 64
+carriersFit k = leb k carrierLimit
 
 unfoldable pub orderFits : ℕ → ℕ → Bool
 orderFits carriers k = eqb k carriers
@@ -42,7 +46,8 @@ notRising lanes (suc j) =
     pick (ltb (lower lanes j) (lower lanes (suc j))) false
     (pick (eqb (lower lanes j) (lower lanes (suc j))) (leb (higher lanes (suc j)) (higher lanes j)) true)
 
--- "a lane end is no node, the first is not below the second, or the lane does not exceed the one before"
+-- one of its numbers is no node, the first is not below the second, or the lane does not exceed the one
+-- before
 unfoldable pub laneFaulty : ℕ → List ℕ → ℕ → Bool
 laneFaulty nodes lanes k =
     either (leb nodes (lower lanes k))
@@ -50,19 +55,13 @@ laneFaulty nodes lanes k =
     (either (leb (higher lanes k) (lower lanes k))
     (notRising lanes k)))
 
-abbrev pub startOf : List ℕ → ℕ → ℕ
-startOf moves i = getD moves (2 * i) 0
-
-abbrev pub goalOf : List ℕ → ℕ → ℕ
-goalOf moves i = getD moves (2 * i + 1) 0
-
--- "a start or goal is no node"
+-- the start or the goal is no node
 unfoldable pub offFloor : ℕ → List ℕ → ℕ → Bool
-offFloor nodes moves i = either (leb nodes (startOf moves i)) (leb nodes (goalOf moves i))
+offFloor nodes moves i = either (leb nodes (startIn moves i)) (leb nodes (goalIn moves i))
 
--- "start equals goal"
+-- start and goal are one node
 unfoldable pub sameEnds : List ℕ → ℕ → Bool
-sameEnds moves i = eqb (startOf moves i) (goalOf moves i)
+sameEnds moves i = eqb (startIn moves i) (goalIn moves i)
 
 -- some number below n passes the test
 unfoldable pub someBelow : (ℕ → Bool) → ℕ → Bool
@@ -70,16 +69,17 @@ someBelow f zero = false
 someBelow f (suc n) = either (someBelow f n) (f n)
 
 abbrev pub sharesEnd : List ℕ → ℕ → ℕ → Bool
-sharesEnd moves i earlier = either (eqb (startOf moves earlier) (startOf moves i)) (eqb (goalOf moves earlier) (goalOf moves i))
+sharesEnd moves i earlier =
+    either (eqb (startIn moves earlier) (startIn moves i)) (eqb (goalIn moves earlier) (goalIn moves i))
 
--- "a start equals an earlier start, or a goal an earlier goal"
+-- the start is an earlier carrier's start, or the goal an earlier one's goal
 unfoldable pub sharedEnd : List ℕ → ℕ → Bool
 sharedEnd moves i = someBelow (sharesEnd moves i) i
 
 abbrev pub sameEntry : List ℕ → ℕ → ℕ → Bool
 sameEntry order p earlier = eqb (getD order earlier 0) (getD order p 0)
 
--- "an order entry is no carrier number, or stands earlier"
+-- the entry is no carrier number, or stands at an earlier place
 unfoldable pub badOrder : ℕ → List ℕ → ℕ → Bool
 badOrder carriers order p = either (leb carriers (getD order p 0)) (someBelow (sameEntry order p) p)
 

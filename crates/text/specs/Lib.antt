@@ -1,4 +1,5 @@
--- The text of a job (page 01, "Job text", "Refusal numbers", "What is left") as definitions. Each file opens with a dictionary in the page's words.
+-- The text of a job as definitions: its form and reading (section 7 of the rules), the refusals of reading
+-- (rule 8.21) and what reading leaves in lent tables (section 9). Each file opens with a dictionary.
 pub mod Bytes
 pub mod Lines
 pub mod Checks

@@ -1,15 +1,16 @@
--- The lines of a job text (page 01, "Job text"), each read off the front of what is left of the text.
+-- The lines of a job text (rules 7.1 to 7.4), each read off the front of what is left of the text.
 --     Taken A        what was read at the front with the rest behind it; or the form is lacking
 --     whether        what follows in each of the two cases
 --     then           one thing after the other; where one lacks its form, the whole does
 --     takeOf         one byte of a kind
 --     takeDigit      one digit, by its value; takeSpace one space; takeLineFeed one line feed
---     takeNumber     "Numbers have one to four digits and no leading zero, except 0 itself." A digit too many is left over, and stands where a space or
---                    a line feed is expected
+--     takeNumber     a number of one to four digits, of which the first is 0 only in the number 0 (rule 7.4).
+--                    A digit too many is left over, and stands where a space or a line feed is expected
 --     moreDigits     the further digits of a number, up to so many
 --     takeWord       the letters of a word
---     takeOne        the end of a line from a number on: "Every line ends with one line feed, the last one too." A line of the order is just that
---     takePair       a line of two numbers: "One space separates fields"
+--     takeOne        the end of a line from a number on, with its one line feed (rule 7.2). A line of the
+--                    order is just that
+--     takePair       a line of two numbers, with one space between them (rule 7.3)
 --     takeEntry      a line of one number
 --     takeCount      a line of a section's word and its count
 --     NODES, ..      the words of the four sections, by their letters' bytes

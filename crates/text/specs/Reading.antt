@@ -1,6 +1,7 @@
--- The reading of a whole text (page 01, "Job text"): "The text is read line by line from left to right; the first faulty line decides. Within a line
--- form comes first, then the listed checks in number order. A missing line, or bytes after the last, is a fault of form at the line where it shows.
--- Lines count from 1."
+-- The reading of a whole text (rules 7.8 to 7.12): line by line, and the first line with a fault decides. In
+-- a line the form is tested first, then the listed checks, the lower number before the higher. A line that is
+-- missing lacks its form; bytes behind the last line are a fault of form at the line that they begin. Lines
+-- are counted from 1.
 --     Section A     what a part of the text hands on, with the rest of the text; or the refusal with its line
 --     follows       one part after the other: the first refusal decides
 --     formed        the form of a line: 1 where it is lacking
@@ -10,20 +11,24 @@
 --     entries       as many lines of entries as are left: entry k of a section stands k lines below its first
 --     Reading       what reading a text gives: the numbers of a job, or the fault with its line
 --     onward        one part of the text and then the reading of the rest: the first refusal decides
---     atEnd         "bytes after the last" line are a fault of form
+--     atEnd         bytes behind the last line are a fault of form
 --     fromOrder, fromCarriers, fromLanes    the reading from the line of that word on
---     reading       the sections in their order. Line 1 is NODES, line 2 LANES, then m lanes, CARRIERS, k moves, ORDER, k entries, and the end of the text
+--     reading       the sections in their order. Line 1 is NODES, line 2 LANES, then m lanes, CARRIERS, k
+--                   moves, ORDER, k entries, and the end of the text
 use mathlib.Core.List.{List, [], _∷_, _++_}
 use mathlib.Core.Bool.{Bool, true, false}
 use Prim.Native.Nat.{ℕ, zero, suc, _+_}
-use Rattle.hall.specs.Job.{Numbers}
+use Rattle.hall.specs.Floor.{networkOf}
+use Rattle.hall.specs.Job.{Numbers, jobOf}
 use Rattle.hall.specs.declared.Fault.{Fault}
 use Rattle.hall.specs.declared.Fault.the-variants.{Malformed, BadCount}
 use Rattle.text.specs.declared.checks.Verdict.{Verdict}
 use Rattle.text.specs.declared.checks.Verdict.the-variants.{Fine, Faulty}
 use Rattle.text.specs.Bytes.{pick}
-use Rattle.text.specs.Lines.{Taken, got, bad, whether, takePair, takeEntry, takeCount, NODES, LANES, CARRIERS, ORDER}
-use Rattle.text.specs.Checks.{nodesFit, lanesFit, carriersFit, orderFits, laneVerdict, moveVerdict, orderVerdict}
+use Rattle.text.specs.Lines.{Taken, got, bad, whether, takePair, takeEntry, takeCount}
+use Rattle.text.specs.Lines.{NODES, LANES, CARRIERS, ORDER}
+use Rattle.text.specs.Checks.{nodesFit, lanesFit, carriersFit, orderFits}
+use Rattle.text.specs.Checks.{laneVerdict, moveVerdict, orderVerdict}
 
 pub data Section (A : Type 0) : Type 0 where
   read : (value : A) (rest : List ℕ) → Section A
@@ -42,16 +47,19 @@ judged Fine line e rest = read e rest
 judged (Faulty fault) line e rest = refused fault line
 
 unfoldable pub counted : (word : List ℕ) (fits : ℕ → Bool) (line : ℕ) → List ℕ → Section ℕ
-counted word fits line t = formed line (takeCount word t) follows λ n rest. pick (fits n) (read n rest) (refused BadCount line)
+counted word fits line t =
+    formed line (takeCount word t) follows λ n rest. pick (fits n) (read n rest) (refused BadCount line)
 
--- `take` reads an entry's line, `verdict` judges entry k of the entries so far; `before` are those that stand before it
+-- `take` reads an entry's line, `verdict` judges entry k of the entries so far; `before` are those before it
 module _ (take : List ℕ → Taken (List ℕ)) (verdict : List ℕ → ℕ → Verdict) where
   unfoldable pub entry : (line k : ℕ) (before : List ℕ) → List ℕ → Section (List ℕ)
-  entry line k before t = formed line (take t) follows λ e rest. judged (verdict (before ++ e) k) line (before ++ e) rest
+  entry line k before t =
+      formed line (take t) follows λ e rest. judged (verdict (before ++ e) k) line (before ++ e) rest
 
   unfoldable pub entries : (first k : ℕ) (before : List ℕ) (left : ℕ) → List ℕ → Section (List ℕ)
   entries first k before zero t = read before t
-  entries first k before (suc left) t = entry (first + k) k before t follows λ now rest. entries first (suc k) now left rest
+  entries first k before (suc left) t =
+      entry (first + k) k before t follows λ now rest. entries first (suc k) now left rest
 
 pub data Reading : Type 0 where
   job : Numbers → Reading
@@ -71,7 +79,7 @@ unfoldable pub fromOrder : (n m k : ℕ) (lanes moves : List ℕ) → List ℕ �
 fromOrder n m k lanes moves t =
     onward (counted ORDER (orderFits k) (4 + m + k) t) λ c rest.
     onward (entries takeEntry (orderVerdict k) (5 + m + k) 0 [] k rest) λ order rest′.
-    atEnd (record { nodes = n; lanes = lanes; moves = moves; order = order }) (5 + m + k + k) rest′
+    atEnd (jobOf (networkOf n lanes) moves order) (5 + m + k + k) rest′
 
 -- from the line `CARRIERS` on, after m lanes
 unfoldable pub fromCarriers : (n m : ℕ) (lanes : List ℕ) → List ℕ → Reading

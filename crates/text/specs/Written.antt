@@ -1,8 +1,8 @@
--- The written form of a job (page 01, "Job text").
+-- The written form of a job (rules 7.1 to 7.4).
 --     digits      the digits of a number of at most four, without a leading zero
 --     oneLine     a line of one number; pairLine a line of two; countLine a line of a word and a count
 --     pairLines   the lines of a lane list or of the moves, two numbers a line; oneLines those of the order
---     written     "Sections come in fixed order, each after its count"
+--     written     the four sections in their order, each behind the line of its count
 use mathlib.Core.List.{List, [], _∷_, _++_}
 use Prim.Native.Nat.{ℕ, _+_, _/_, _%_}
 use lib.ListN.{length}
@@ -42,7 +42,7 @@ oneLines (a ∷ l) = oneLine a ++ oneLines l
 
 unfoldable pub written : Numbers → List ℕ
 written j =
-    countLine NODES (j .nodes)
-    ++ (countLine LANES (laneCount (j .lanes)) ++ (pairLines (j .lanes)
+    countLine NODES (j .network .nodes)
+    ++ (countLine LANES (laneCount (j .network .lanes)) ++ (pairLines (j .network .lanes)
     ++ (countLine CARRIERS (carriers j) ++ (pairLines (j .moves)
     ++ (countLine ORDER (length (j .order)) ++ oneLines (j .order))))))

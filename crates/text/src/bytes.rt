@@ -1,4 +1,4 @@
-// The five kinds of bytes of a job text.
+// The five kinds of bytes of a job text (rule 7.5).
 ghost use mathlib.Core.Path.{_≡_};
 ghost use Rattle.text.specs.Bytes.{kindOf, isDigit, isSpace, isLineFeed};
 

@@ -1,9 +1,10 @@
-// The listed checks of one line, asked of the entries that stand in a table so far.
+// The listed checks of one line (rule 7.9), asked of the entries that stand in a table so far.
 use hall::Fault;
 ghost use mathlib.Core.Path.{_≡_};
 ghost use Prim.Native.Nat.{_+_, _*_, _<_};
 ghost use lib.ListN.{length};
-ghost use Rattle.text.specs.Checks.{notRising, laneVerdict, sharedEnd, moveVerdict, someBelow, sameEntry, orderVerdict};
+ghost use Rattle.text.specs.Checks.{notRising, laneVerdict, sharedEnd, moveVerdict};
+ghost use Rattle.text.specs.Checks.{someBelow, sameEntry, orderVerdict};
 
 // What the listed checks of a line find.
 pub enum Verdict {

@@ -1,10 +1,12 @@
-// A text cursor by value: each method looks at the bytes from the cursor on, decides on their kinds, and hands back what it read with the next
-// cursor, or `Bad` where the form is lacking. Only a word's letters are compared byte by byte, since their kind does not tell them apart.
+// A text cursor by value (rules 7.2 to 7.5): each method looks at the bytes from the cursor on, decides on
+// their kinds, and hands back what it read with the next cursor, or `Bad` where the form is lacking. Only a
+// word's letters are compared byte by byte, since their kind does not tell them apart.
 use crate::bytes::Kind;
 ghost use mathlib.Core.Path.{_≡_};
 ghost use Prim.Native.Nat.{_≤_, _<_};
 ghost use lib.ListN.{length, drop};
-ghost use Rattle.text.specs.Lines.{takeDigit, takeSpace, takeLineFeed, takeNumber, takeWord, moreDigits, takeOne, takePair, takeCount};
+ghost use Rattle.text.specs.Lines.{takeDigit, takeSpace, takeLineFeed, moreDigits, takeNumber};
+ghost use Rattle.text.specs.Lines.{takeWord, takeOne, takePair, takeCount};
 ghost use Rattle.text.specs.Answers.{Numbering, Stepping, Pairing, stepTaken};
 
 pub struct Cursor {
@@ -29,7 +31,11 @@ pub enum Paired {
 impl Cursor {
     // One digit, by its value.
     pub(crate) fn digit(self, text: &[u8]) -> Numbered
-        ensures { λ r. ⌜ Numbering (now (text .entry)) (takeDigit (drop (self .at) (now (text .entry)))) r ⌝ }
+        ensures { λ r. ⌜
+            Numbering (now (text .entry))
+            (takeDigit (drop (self .at) (now (text .entry))))
+            r
+            ⌝ }
     {
         let at = self.at;
         if text.len() <= at {
@@ -46,7 +52,11 @@ impl Cursor {
 
     // One space.
     pub(crate) fn space(self, text: &[u8]) -> Stepped
-        ensures { λ r. ⌜ Stepping (now (text .entry)) (takeSpace (drop (self .at) (now (text .entry)))) r ⌝ }
+        ensures { λ r. ⌜
+            Stepping (now (text .entry))
+            (takeSpace (drop (self .at) (now (text .entry))))
+            r
+            ⌝ }
     {
         let at = self.at;
         if text.len() <= at {
@@ -63,7 +73,11 @@ impl Cursor {
 
     // One line feed.
     pub(crate) fn line_feed(self, text: &[u8]) -> Stepped
-        ensures { λ r. ⌜ Stepping (now (text .entry)) (takeLineFeed (drop (self .at) (now (text .entry)))) r ⌝ }
+        ensures { λ r. ⌜
+            Stepping (now (text .entry))
+            (takeLineFeed (drop (self .at) (now (text .entry))))
+            r
+            ⌝ }
     {
         let at = self.at;
         if text.len() <= at {
@@ -81,7 +95,11 @@ impl Cursor {
     // Up to three further digits of a number that begins with `first`.
     fn more(self, text: &[u8], first: u16) -> Numbered
         requires { ⌜ (first < 10) × (self .at ≤ length (now text)) ⌝ }
-        ensures { λ r. ⌜ Numbering (now (text .entry)) (moreDigits 3 first (drop (self .at) (now (text .entry)))) r ⌝ }
+        ensures { λ r. ⌜
+            Numbering (now (text .entry))
+            (moreDigits 3 first (drop (self .at) (now (text .entry))))
+            r
+            ⌝ }
     {
         let mut value = first;
         let mut here = self;
@@ -103,7 +121,11 @@ impl Cursor {
 
     // A number of one to four digits, with no leading zero but 0 itself.
     pub(crate) fn number(self, text: &[u8]) -> Numbered
-        ensures { λ r. ⌜ Numbering (now (text .entry)) (takeNumber (drop (self .at) (now (text .entry)))) r ⌝ }
+        ensures { λ r. ⌜
+            Numbering (now (text .entry))
+            (takeNumber (drop (self .at) (now (text .entry))))
+            r
+            ⌝ }
     {
         match self.digit(text) {
             Numbered::Got(d, next) => {
@@ -119,7 +141,10 @@ impl Cursor {
 
     // The letters of a word.
     fn word(self, text: &[u8], word: &[u8]) -> Stepped
-        ensures { λ r. ⌜ stepTaken (now (text .entry)) r ≡ takeWord (now (word .entry)) (drop (self .at) (now (text .entry))) ⌝ }
+        ensures { λ r. ⌜
+            stepTaken (now (text .entry)) r
+            ≡ takeWord (now (word .entry)) (drop (self .at) (now (text .entry)))
+            ⌝ }
     {
         let letters = word.len();
         let mut at = self.at;
@@ -139,7 +164,11 @@ impl Cursor {
 
     // The end of a line from a number on.
     pub(crate) fn one(self, text: &[u8]) -> Numbered
-        ensures { λ r. ⌜ Numbering (now (text .entry)) (takeOne (drop (self .at) (now (text .entry)))) r ⌝ }
+        ensures { λ r. ⌜
+            Numbering (now (text .entry))
+            (takeOne (drop (self .at) (now (text .entry))))
+            r
+            ⌝ }
     {
         match self.number(text) {
             Numbered::Got(n, behind) => match behind.line_feed(text) {
@@ -152,7 +181,11 @@ impl Cursor {
 
     // A line of two numbers.
     pub(crate) fn pair(self, text: &[u8]) -> Paired
-        ensures { λ r. ⌜ Pairing (now (text .entry)) (takePair (drop (self .at) (now (text .entry)))) r ⌝ }
+        ensures { λ r. ⌜
+            Pairing (now (text .entry))
+            (takePair (drop (self .at) (now (text .entry))))
+            r
+            ⌝ }
     {
         match self.number(text) {
             Numbered::Got(a, behind) => match behind.space(text) {
@@ -168,7 +201,11 @@ impl Cursor {
 
     // A line of a word and a count.
     pub(crate) fn count(self, text: &[u8], word: &[u8]) -> Numbered
-        ensures { λ r. ⌜ Numbering (now (text .entry)) (takeCount (now (word .entry)) (drop (self .at) (now (text .entry)))) r ⌝ }
+        ensures { λ r. ⌜
+            Numbering (now (text .entry))
+            (takeCount (now (word .entry)) (drop (self .at) (now (text .entry))))
+            r
+            ⌝ }
     {
         match self.word(text, word) {
             Stepped::On(behind) => match behind.space(text) {

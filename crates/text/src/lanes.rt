@@ -1,4 +1,5 @@
-// The lines of the lanes, written into a lent table one after the other, two numbers a lane. The first faulty line ends the reading.
+// The lines of the lanes, written into a lent table one after the other, two numbers a lane. The first faulty
+// line ends the reading (rule 7.8).
 use crate::checks::Verdict;
 use crate::checks::lane_verdict;
 use crate::cursor::Cursor;
@@ -12,7 +13,7 @@ ghost use lib.ListN.{length, take, drop};
 ghost use Rattle.text.specs.Lines.{takePair};
 ghost use Rattle.text.specs.Checks.{laneVerdict};
 ghost use Rattle.text.specs.Reading.{entry, entries};
-ghost use Rattle.text.specs.Parts.{Filling};
+ghost use Rattle.text.specs.Parts.{PartFilling};
 
 // The line of lane k.
 fn lane_line(
@@ -24,7 +25,15 @@ fn lane_line(
     lanes: &mut [u16],
 ) -> Passed
     requires { ⌜ 2 * k + 1 < length (now lanes) ⌝ }
-    ensures { λ r. ⌜ Filling (now (text .entry)) (entry takePair (laneVerdict nodes) line k (take (2 * k) (now (lanes .entry))) (drop (here .at) (now (text .entry)))) (2 * (k + 1)) (now (lanes .entry)) (now (lanes .exit)) r ⌝ }
+    ensures { λ r. ⌜
+        PartFilling (now (text .entry))
+        (entry takePair (laneVerdict nodes) line k (take (2 * k) (now (lanes .entry)))
+        (drop (here .at) (now (text .entry))))
+        (2 * (k + 1))
+        (now (lanes .entry))
+        (now (lanes .exit))
+        r
+        ⌝ }
 {
     match here.pair(text) {
         Paired::Got(a, b, next) => {
@@ -52,7 +61,14 @@ pub(crate) fn lane_lines(
     lanes: &mut [u16],
 ) -> Passed
     requires { ⌜ (2 * count ≤ length (now lanes)) × (first + count < 100000) ⌝ }
-    ensures { λ r. ⌜ Filling (now (text .entry)) (entries takePair (laneVerdict nodes) first 0 [] count (drop (from .at) (now (text .entry)))) (2 * count) (now (lanes .entry)) (now (lanes .exit)) r ⌝ }
+    ensures { λ r. ⌜
+        PartFilling (now (text .entry))
+        (entries takePair (laneVerdict nodes) first 0 [] count (drop (from .at) (now (text .entry))))
+        (2 * count)
+        (now (lanes .entry))
+        (now (lanes .exit))
+        r
+        ⌝ }
 {
     let mut here = from;
     let mut k: usize = 0;

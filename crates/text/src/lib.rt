@@ -1,4 +1,5 @@
-// Reads a job text (page 01, "Job text") into lent tables. The public question is `reader::read_numbers`; the other modules are its parts, from the bottom up.
+// Reads a job text (section 7 of the rules) into lent tables. The public question is `reader::read_numbers`;
+// the other modules are its parts, from the bottom up.
 pub mod bytes;
 pub mod checks;
 pub mod cursor;

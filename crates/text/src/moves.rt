@@ -1,4 +1,5 @@
-// The lines of the moves, written into a lent table one after the other, start and goal by turns. The first faulty line ends the reading.
+// The lines of the moves, written into a lent table one after the other, start and goal by turns. The first
+// faulty line ends the reading (rule 7.8).
 use crate::checks::Verdict;
 use crate::checks::move_verdict;
 use crate::cursor::Cursor;
@@ -12,7 +13,7 @@ ghost use lib.ListN.{length, take, drop};
 ghost use Rattle.text.specs.Lines.{takePair};
 ghost use Rattle.text.specs.Checks.{moveVerdict};
 ghost use Rattle.text.specs.Reading.{entry, entries};
-ghost use Rattle.text.specs.Parts.{Filling};
+ghost use Rattle.text.specs.Parts.{PartFilling};
 
 // The line of carrier i's move.
 fn move_line(
@@ -24,7 +25,15 @@ fn move_line(
     moves: &mut [u16],
 ) -> Passed
     requires { ⌜ 2 * i + 1 < length (now moves) ⌝ }
-    ensures { λ r. ⌜ Filling (now (text .entry)) (entry takePair (moveVerdict nodes) line i (take (2 * i) (now (moves .entry))) (drop (here .at) (now (text .entry)))) (2 * (i + 1)) (now (moves .entry)) (now (moves .exit)) r ⌝ }
+    ensures { λ r. ⌜
+        PartFilling (now (text .entry))
+        (entry takePair (moveVerdict nodes) line i (take (2 * i) (now (moves .entry)))
+        (drop (here .at) (now (text .entry))))
+        (2 * (i + 1))
+        (now (moves .entry))
+        (now (moves .exit))
+        r
+        ⌝ }
 {
     match here.pair(text) {
         Paired::Got(a, b, next) => {
@@ -52,7 +61,14 @@ pub(crate) fn move_lines(
     moves: &mut [u16],
 ) -> Passed
     requires { ⌜ (2 * count ≤ length (now moves)) × (first + count < 100000) ⌝ }
-    ensures { λ r. ⌜ Filling (now (text .entry)) (entries takePair (moveVerdict nodes) first 0 [] count (drop (from .at) (now (text .entry)))) (2 * count) (now (moves .entry)) (now (moves .exit)) r ⌝ }
+    ensures { λ r. ⌜
+        PartFilling (now (text .entry))
+        (entries takePair (moveVerdict nodes) first 0 [] count (drop (from .at) (now (text .entry))))
+        (2 * count)
+        (now (moves .entry))
+        (now (moves .exit))
+        r
+        ⌝ }
 {
     let mut here = from;
     let mut i: usize = 0;

@@ -1,4 +1,5 @@
-// The lines of the order, written into a lent table one after the other. The first faulty line ends the reading.
+// The lines of the order, written into a lent table one after the other. The first faulty line ends the
+// reading (rule 7.8).
 use crate::checks::Verdict;
 use crate::checks::order_verdict;
 use crate::cursor::Cursor;
@@ -12,7 +13,7 @@ ghost use lib.ListN.{length, take, drop};
 ghost use Rattle.text.specs.Lines.{takeEntry};
 ghost use Rattle.text.specs.Checks.{orderVerdict};
 ghost use Rattle.text.specs.Reading.{entry, entries};
-ghost use Rattle.text.specs.Parts.{Filling};
+ghost use Rattle.text.specs.Parts.{PartFilling};
 
 // The line of the entry at place p.
 fn order_line(
@@ -24,7 +25,15 @@ fn order_line(
     order: &mut [u16],
 ) -> Passed
     requires { ⌜ p < length (now order) ⌝ }
-    ensures { λ r. ⌜ Filling (now (text .entry)) (entry takeEntry (orderVerdict carriers) line p (take p (now (order .entry))) (drop (here .at) (now (text .entry)))) (p + 1) (now (order .entry)) (now (order .exit)) r ⌝ }
+    ensures { λ r. ⌜
+        PartFilling (now (text .entry))
+        (entry takeEntry (orderVerdict carriers) line p (take p (now (order .entry)))
+        (drop (here .at) (now (text .entry))))
+        (p + 1)
+        (now (order .entry))
+        (now (order .exit))
+        r
+        ⌝ }
 {
     match here.one(text) {
         Numbered::Got(e, next) => {
@@ -51,7 +60,14 @@ pub(crate) fn order_lines(
     order: &mut [u16],
 ) -> Passed
     requires { ⌜ (count ≤ length (now order)) × (first + count < 100000) ⌝ }
-    ensures { λ r. ⌜ Filling (now (text .entry)) (entries takeEntry (orderVerdict carriers) first 0 [] count (drop (from .at) (now (text .entry)))) count (now (order .entry)) (now (order .exit)) r ⌝ }
+    ensures { λ r. ⌜
+        PartFilling (now (text .entry))
+        (entries takeEntry (orderVerdict carriers) first 0 [] count (drop (from .at) (now (text .entry))))
+        count
+        (now (order .entry))
+        (now (order .exit))
+        r
+        ⌝ }
 {
     let mut here = from;
     let mut p: usize = 0;

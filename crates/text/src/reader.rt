@@ -1,5 +1,6 @@
-// Reads a job text into lent tables. A table that is too short is refused before anything is read; any other refusal leaves every table zero up to its least
-// length. The sections are read one after the other, each by a function that hands on to the next.
+// Reads a job text into lent tables (rules 8.21 and 9.4 to 9.6). A table that is too short is refused before
+// anything is read; any other refusal leaves every table zero up to its least length. The sections are read
+// one after the other, each by a function that hands on to the next.
 use crate::cursor::Cursor;
 use crate::lanes::lane_lines;
 use crate::moves::move_lines;
@@ -14,14 +15,10 @@ ghost use mathlib.Core.Path.{_≡_};
 ghost use mathlib.Core.List.{_++_};
 ghost use Prim.Native.Nat.{_+_, _*_, _-_, _≤_, _<_};
 ghost use lib.ListN.{length, take, drop, replicate};
+ghost use Rattle.hall.specs.Limits.{laneLimit, carrierLimit, laneNumbers, moveNumbers};
 ghost use Rattle.text.specs.Reading.{fromLanes, reading};
 ghost use Rattle.text.specs.Parts.{EndRead, OrderRead, CarriersRead, ReadAs};
-ghost use Rattle.text.specs.Left.{outcome, short, readOutcome, usedLanes, usedCarriers};
-
-// The least lengths of the lent tables: two numbers a lane, two numbers a move, one number an order place.
-const LANE_NUMBERS: usize = 2 * Job::LANES;
-
-const MOVE_NUMBERS: usize = 2 * Job::CARRIERS;
+ghost use Rattle.text.specs.Left.{saidRead, textOutcome, short, readOutcome, usedLanes, usedCarriers};
 
 // The counts of an accepted job, or the refusal with its line.
 pub enum Read {
@@ -29,7 +26,8 @@ pub enum Read {
     Refused(Refusal),
 }
 
-// The end of the text, where line `line` would stand.
+// The end of the text, where line `line` would stand. An accepted text answers the empty job with the text's
+// counts put in.
 fn at_end(
     text: &[u8],
     here: Cursor,
@@ -38,7 +36,7 @@ fn at_end(
     carriers: usize,
     line: usize,
 ) -> Read
-    requires { ⌜ (lanes ≤ 4096) × (carriers ≤ 64) ⌝ }
+    requires { ⌜ (lanes ≤ laneLimit) × (carriers ≤ carrierLimit) ⌝ }
     ensures { λ r. ⌜ EndRead nodes lanes carriers line (drop (here .at) (now (text .entry))) r ⌝ }
 {
     let at = here.at;
@@ -48,17 +46,23 @@ fn at_end(
             place: line,
         });
     }
-    Read::Job(Job {
-        nodes,
-        lanes,
-        carriers,
-    })
+    let mut job = Job::empty();
+    job.nodes = nodes;
+    job.lanes = lanes;
+    job.carriers = carriers;
+    Read::Job(job)
 }
 
 // From the line `ORDER` on, behind m lanes and k carriers.
 fn from_order(text: &[u8], here: Cursor, nodes: u16, m: u16, k: u16, order: &mut [u16]) -> Read
-    requires { ⌜ (64 ≤ length (now order)) × (m ≤ 4096) × (k ≤ 64) ⌝ }
-    ensures { λ r. ⌜ OrderRead nodes m k (drop (here .at) (now (text .entry))) (now (order .entry)) (now (order .exit)) r ⌝ }
+    requires { ⌜ (carrierLimit ≤ length (now order)) × (m ≤ laneLimit) × (k ≤ carrierLimit) ⌝ }
+    ensures { λ r. ⌜
+        OrderRead nodes m k
+        (drop (here .at) (now (text .entry)))
+        (now (order .entry))
+        (now (order .exit))
+        r
+        ⌝ }
 {
     let lanes = m as usize;
     let carriers = k as usize;
@@ -91,8 +95,20 @@ fn from_carriers(
     moves: &mut [u16],
     order: &mut [u16],
 ) -> Read
-    requires { ⌜ (128 ≤ length (now moves)) × (64 ≤ length (now order)) × (m ≤ 4096) ⌝ }
-    ensures { λ r. ⌜ CarriersRead nodes m (drop (here .at) (now (text .entry))) (now (moves .entry)) (now (moves .exit)) (now (order .entry)) (now (order .exit)) r ⌝ }
+    requires { ⌜
+        (moveNumbers ≤ length (now moves))
+        × (carrierLimit ≤ length (now order))
+        × (m ≤ laneLimit)
+        ⌝ }
+    ensures { λ r. ⌜
+        CarriersRead nodes m
+        (drop (here .at) (now (text .entry)))
+        (now (moves .entry))
+        (now (moves .exit))
+        (now (order .entry))
+        (now (order .exit))
+        r
+        ⌝ }
 {
     let lanes = m as usize;
     let line = 3 + lanes;
@@ -117,8 +133,21 @@ fn from_lanes(
     moves: &mut [u16],
     order: &mut [u16],
 ) -> Read
-    requires { ⌜ (8192 ≤ length (now lanes)) × (128 ≤ length (now moves)) × (64 ≤ length (now order)) ⌝ }
-    ensures { λ r. ⌜ ReadAs (fromLanes nodes (drop (here .at) (now (text .entry)))) (now (lanes .entry)) (now (lanes .exit)) (now (moves .entry)) (now (moves .exit)) (now (order .entry)) (now (order .exit)) r ⌝ }
+    requires { ⌜
+        (laneNumbers ≤ length (now lanes))
+        × (moveNumbers ≤ length (now moves))
+        × (carrierLimit ≤ length (now order))
+        ⌝ }
+    ensures { λ r. ⌜
+        ReadAs (fromLanes nodes (drop (here .at) (now (text .entry))))
+        (now (lanes .entry))
+        (now (lanes .exit))
+        (now (moves .entry))
+        (now (moves .exit))
+        (now (order .entry))
+        (now (order .exit))
+        r
+        ⌝ }
 {
     match count_line(text, here, b"LANES", 2, 0, Job::LANES as u16) {
         Counted::Count(m, next) => match lane_lines(text, next, nodes, 3, m as usize, lanes) {
@@ -131,8 +160,21 @@ fn from_lanes(
 
 // The whole text, into tables that are long enough. What a refusal leaves in them is cleared afterwards.
 fn read_text(text: &[u8], lanes: &mut [u16], moves: &mut [u16], order: &mut [u16]) -> Read
-    requires { ⌜ (8192 ≤ length (now lanes)) × (128 ≤ length (now moves)) × (64 ≤ length (now order)) ⌝ }
-    ensures { λ r. ⌜ ReadAs (reading (now (text .entry))) (now (lanes .entry)) (now (lanes .exit)) (now (moves .entry)) (now (moves .exit)) (now (order .entry)) (now (order .exit)) r ⌝ }
+    requires { ⌜
+        (laneNumbers ≤ length (now lanes))
+        × (moveNumbers ≤ length (now moves))
+        × (carrierLimit ≤ length (now order))
+        ⌝ }
+    ensures { λ r. ⌜
+        ReadAs (reading (now (text .entry)))
+        (now (lanes .entry))
+        (now (lanes .exit))
+        (now (moves .entry))
+        (now (moves .exit))
+        (now (order .entry))
+        (now (order .exit))
+        r
+        ⌝ }
 {
     let start = Cursor { at: 0 };
     match count_line(text, start, b"NODES", 1, 1, Job::NODES as u16) {
@@ -144,7 +186,12 @@ fn read_text(text: &[u8], lanes: &mut [u16], moves: &mut [u16], order: &mut [u16
 // Zeros from place `from` up to place `least`.
 fn clear(table: &mut [u16], from: usize, least: usize)
     requires { ⌜ (from ≤ least) × (least ≤ length (now table)) ⌝ }
-    ensures { λ r. ⌜ now (table .exit) ≡ take from (now (table .entry)) ++ (replicate (least - from) 0 ++ drop least (now (table .entry))) ⌝ }
+    ensures { λ r. ⌜
+        now (table .exit)
+        ≡ take from (now (table .entry))
+        ++ (replicate (least - from) 0
+        ++ drop least (now (table .entry)))
+        ⌝ }
 {
     let mut i = from;
     while i < least {
@@ -155,7 +202,7 @@ fn clear(table: &mut [u16], from: usize, least: usize)
 
 // How many numbers of the lanes an answer leaves, and how many carriers: none after a refusal.
 fn lanes_used(r: Read) -> usize
-    requires { ⌜ usedLanes r ≤ 8192 ⌝ }
+    requires { ⌜ usedLanes r ≤ laneNumbers ⌝ }
     ensures { λ n. ⌜ n ≡ usedLanes r ⌝ }
 {
     match r {
@@ -177,20 +224,20 @@ fn carriers_used(r: Read) -> usize
 fn too_short(lanes: usize, records: usize, moves: usize, order: usize) -> bool
     ensures { λ r. ⌜ r ≡ short lanes records moves order ⌝ }
 {
-    if lanes < LANE_NUMBERS {
+    if lanes < Job::LANE_NUMBERS {
         return true;
     }
     if records < Job::CARRIERS {
         return true;
     }
-    if moves < MOVE_NUMBERS {
+    if moves < Job::MOVE_NUMBERS {
         return true;
     }
     order < Job::CARRIERS
 }
 
-// Reads a job text. The lanes' numbers go to `lanes`, the starts and goals of the carriers by turns to `moves`, and the order to `order`; `records` is how many
-// records the caller lends.
+// Reads a job text. The lanes' numbers go to `lanes`, the starts and goals of the carriers by turns to
+// `moves`, and the order to `order`; `records` is how many records the caller lends.
 pub fn read_numbers(
     text: &[u8],
     lanes: &mut [u16],
@@ -198,7 +245,17 @@ pub fn read_numbers(
     moves: &mut [u16],
     order: &mut [u16],
 ) -> Read
-    ensures { λ r. ⌜ outcome r (now (lanes .exit)) (now (moves .exit)) (now (order .exit)) ≡ readOutcome (now (text .entry)) (now (lanes .entry)) records (now (moves .entry)) (now (order .entry)) ⌝ }
+    ensures { λ r. ⌜
+        textOutcome (saidRead r)
+        (now (lanes .exit))
+        (now (moves .exit))
+        (now (order .exit))
+        ≡ readOutcome (now (text .entry))
+        (now (lanes .entry))
+        records
+        (now (moves .entry))
+        (now (order .entry))
+        ⌝ }
 {
     if too_short(lanes.len(), records, moves.len(), order.len()) {
         return Read::Refused(Refusal {
@@ -209,8 +266,8 @@ pub fn read_numbers(
     let answer = read_text(text, lanes, moves, order);
     let numbers = lanes_used(answer);
     let carriers = carriers_used(answer);
-    clear(lanes, numbers, LANE_NUMBERS);
-    clear(moves, 2 * carriers, MOVE_NUMBERS);
+    clear(lanes, numbers, Job::LANE_NUMBERS);
+    clear(moves, 2 * carriers, Job::MOVE_NUMBERS);
     clear(order, carriers, Job::CARRIERS);
     answer
 }

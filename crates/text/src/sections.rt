@@ -29,7 +29,10 @@ pub(crate) fn count_line(
     least: u16,
     greatest: u16,
 ) -> Counted
-    ensures { λ r. ⌜ countedBy (now (text .entry)) r ≡ counted (now (word .entry)) (between least greatest) line (drop (here .at) (now (text .entry))) ⌝ }
+    ensures { λ r. ⌜
+        countedBy (now (text .entry)) r
+        ≡ counted (now (word .entry)) (between least greatest) line (drop (here .at) (now (text .entry)))
+        ⌝ }
 {
     match here.count(text, word) {
         Numbered::Got(n, next) => {

@@ -1,6 +1,7 @@
--- The held list with a carrier written at a place: what stands there is the carrier, what stands at earlier places is as it was, and the list is as long as it was.
--- All three follow from a run of stores in a list: a place of the run has the run's number, a place before it keeps its own. By induction over the run.
--- Assumes nothing.
+-- The held list with a carrier written at a place: what stands there is the carrier, what stands at earlier
+-- places is as it was, and the list is as long as it was. All three follow from a run of stores in a list: a
+-- place of the run has the run's number, a place before it keeps its own, by induction over the run. Lists
+-- that agree at the seven numbers of a place hold the same carrier there. Assumes nothing.
 use mathlib.Core.Path.{_≡_, refl, _∙_}
 use mathlib.Core.List.{List, [], _∷_}
 use Prim.Native.Nat.{ℕ, zero, suc, _+_, _*_, _≤_, _<_}
@@ -10,19 +11,39 @@ use lib.ListN.{length, getD, set, length-set}
 use lib.Seq.{sets, length-sets, getD-set-same, getD-set-other}
 use Rattle.hall.specs.Rule.{Pair}
 use Rattle.rule.specs.Held.{heldTick, heldPair}
+use Rattle.rule.proofs.Carry.{held-tick-is, held-pair-is}
 use Rattle.ticks.specs.Steps.{heldWith}
 
 -- ---- a run of stores
 
 run-before : (vs l : List ℕ) (i j : ℕ) → j < i → getD (sets l i vs) j 0 ≡ getD l j 0
 run-before [] l i j h = refl
-run-before (v ∷ vs) l i j h = run-before vs (set l i v) (suc i) j (omega arith) ∙ getD-set-other l i j v 0 (λ e. omega arith)
+run-before (v ∷ vs) l i j h =
+    run-before vs (set l i v) (suc i) j (omega arith) ∙ getD-set-other l i j v 0 (λ e. omega arith)
 
-run-at : (vs l : List ℕ) (i k : ℕ) → k < length vs → i + length vs ≤ length l → getD (sets l i vs) (i + k) 0 ≡ getD vs k 0
+run-at : (vs l : List ℕ) (i k : ℕ) →
+    k < length vs → i + length vs ≤ length l → getD (sets l i vs) (i + k) 0 ≡ getD vs k 0
 run-at [] l i k h fits = absurd (not-suc-le-zero h)
-run-at (v ∷ vs) l i zero h fits = rw add-zero (run-before vs (set l i v) (suc i) i (omega arith) ∙ getD-set-same l i v 0 (omega arith))
+run-at (v ∷ vs) l i zero h fits =
+    rw add-zero
+    (run-before vs (set l i v) (suc i) i (omega arith) ∙ getD-set-same l i v 0 (omega arith))
 run-at (v ∷ vs) l i (suc k) h fits =
-    let e : i + suc k ≡ suc i + k = omega arith in rw e (run-at vs (set l i v) (suc i) k (omega arith) (omega (arith, length-set l i v)))
+    let e : i + suc k ≡ suc i + k = omega arith in
+    rw e (run-at vs (set l i v) (suc i) k (omega arith) (omega (arith, length-set l i v)))
+
+-- ---- lists that agree at the seven numbers of a place
+
+module _ (l m : List ℕ) (q : ℕ) (same : (k : ℕ) → k < 7 * q + 7 → getD l k 0 ≡ getD m k 0) where
+  pub tick-same : heldTick l q ≡ heldTick m q
+  unfolding heldTick
+  tick-same = same (7 * q) (omega arith)
+
+  pub pair-same : heldPair l q ≡ heldPair m q
+  unfolding heldPair
+  pair-same =
+      held-pair-is l q (heldPair m q)
+      (same (7 * q + 1) (omega arith)) (same (7 * q + 2) (omega arith)) (same (7 * q + 3) (omega arith))
+      (same (7 * q + 4) (omega arith)) (same (7 * q + 5) (omega arith)) (same (7 * q + 6) (omega arith))
 
 -- ---- a carrier written at a place
 
@@ -30,8 +51,11 @@ abbrev seven : ℕ → Pair → List ℕ
 seven tick p = tick ∷ p .ss ∷ p .gg ∷ p .ii ∷ p .jj ∷ p .ij ∷ p .ji ∷ []
 
 -- seven stores one after the other, as code writes them
-pub in-a-row : (l : List ℕ) (place tick : ℕ) (p : Pair) → let at = 7 * place in
-    set (set (set (set (set (set (set l at tick) (at + 1) (p .ss)) (at + 2) (p .gg)) (at + 3) (p .ii)) (at + 4) (p .jj)) (at + 5) (p .ij)) (at + 6) (p .ji) ≡ heldWith l place tick p
+pub in-a-row : (l : List ℕ) (place tick : ℕ) (p : Pair) →
+    let at = 7 * place in
+    let starts = set (set (set l at tick) (at + 1) (p .ss)) (at + 2) (p .gg) in
+    let owns = set (set starts (at + 3) (p .ii)) (at + 4) (p .jj) in
+    set (set owns (at + 5) (p .ij)) (at + 6) (p .ji) ≡ heldWith l place tick p
 unfolding heldWith
 in-a-row l place tick p =
     let at = 7 * place in
@@ -48,33 +72,26 @@ unfolding heldWith
 held-length l place tick p = length-sets l (7 * place) (seven tick p)
 
 module _ (l : List ℕ) (place tick : ℕ) (p : Pair) (fits : 7 * place + 7 ≤ length l) where
+  here : (k : ℕ) → k < 7 → getD (heldWith l place tick p) (7 * place + k) 0 ≡ getD (seven tick p) k 0
+  unfolding heldWith
+  here k h = run-at (seven tick p) l (7 * place) k h fits
+
   pub held-tick : heldTick (heldWith l place tick p) place ≡ tick
-  unfolding heldWith heldTick
-  held-tick = rw add-zero at (run-at (seven tick p) l (7 * place) 0 (omega arith) fits)
+  held-tick = held-tick-is (heldWith l place tick p) place tick (rw add-zero at (here 0 (omega arith)))
 
   pub held-pair : heldPair (heldWith l place tick p) place ≡ p
-  unfolding heldWith heldPair
-  held-pair = λ z. record { ss = here 1 (omega arith) z; gg = here 2 (omega arith) z; ii = here 3 (omega arith) z; jj = here 4 (omega arith) z; ij = here 5 (omega arith) z; ji = here 6 (omega arith) z }
-    where
-      here : (k : ℕ) → k < 7 → getD (heldWith l place tick p) (7 * place + k) 0 ≡ getD (seven tick p) k 0
-      here k h = run-at (seven tick p) l (7 * place) k h fits
+  held-pair =
+      held-pair-is (heldWith l place tick p) place p
+      (here 1 (omega arith)) (here 2 (omega arith)) (here 3 (omega arith))
+      (here 4 (omega arith)) (here 5 (omega arith)) (here 6 (omega arith))
 
 module _ (l : List ℕ) (place tick : ℕ) (p : Pair) (q : ℕ) (before : q < place) where
-  earlier : (k : ℕ) → k < 7 * place → getD (heldWith l place tick p) k 0 ≡ getD l k 0
+  earlier : (k : ℕ) → k < 7 * q + 7 → getD (heldWith l place tick p) k 0 ≡ getD l k 0
   unfolding heldWith
-  earlier k h = run-before (seven tick p) l (7 * place) k h
+  earlier k h = run-before (seven tick p) l (7 * place) k (omega arith)
 
   pub earlier-tick : heldTick (heldWith l place tick p) q ≡ heldTick l q
-  unfolding heldTick
-  earlier-tick = earlier (7 * q) (omega arith)
+  earlier-tick = tick-same (heldWith l place tick p) l q earlier
 
   pub earlier-pair : heldPair (heldWith l place tick p) q ≡ heldPair l q
-  unfolding heldPair
-  earlier-pair = λ z. record {
-    ss = earlier (7 * q + 1) (omega arith) z;
-    gg = earlier (7 * q + 2) (omega arith) z;
-    ii = earlier (7 * q + 3) (omega arith) z;
-    jj = earlier (7 * q + 4) (omega arith) z;
-    ij = earlier (7 * q + 5) (omega arith) z;
-    ji = earlier (7 * q + 6) (omega arith) z;
-  }
+  earlier-pair = pair-same (heldWith l place tick p) l q earlier

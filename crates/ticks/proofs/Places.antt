@@ -1,6 +1,8 @@
--- Carriers get their start ticks place by place. A tick at a place is permitted or not by the ticks of earlier places alone, and a carrier's number stands
--- at one place only, so a tick that is written for the next carrier leaves the earlier ones the smallest that they were. When all places are done, the
--- ticks are the start ticks by the order. The bound: a table's number is below 65,536, so each place adds at most that much. Assumes nothing.
+-- Carriers get their start ticks place by place. A tick at a place is permitted or not by the ticks of
+-- earlier places alone, and a carrier's number stands at one place only, so a tick that is written for the
+-- next carrier leaves the earlier ones the smallest that they were. When all places are done, the ticks are
+-- the start ticks by the order. The bound: a table's number is below 65,536, so each place adds at most that
+-- much. Assumes nothing.
 use mathlib.Core.Path.{_≡_, refl, sym, _∙_, subst}
 use mathlib.Core.Logic.{_≢_}
 use mathlib.Core.List.{List}
@@ -10,29 +12,43 @@ use native.Mathlib.Decide.{decLt}
 use native.Mathlib.Omega.{arith}
 use lib.ListN.{length, getD, set, length-set}
 use lib.Seq.{getD-set-same, getD-set-other}
+use Rattle.hall.specs.Limits.{carrierLimit, blockLength}
 use Rattle.hall.specs.Ticks.{SmallestFrom, PermittedAt, pairOf, own}
 use Rattle.hall.specs.Plan.{tablesIn}
 use Rattle.hall.proofs.Ticks.{carry}
 use Rattle.rule.proofs.Bound.{first-tick-bound}
-use Rattle.ticks.specs.Timing.{Served}
+use Rattle.ticks.specs.Timing.{TicksServed}
 use Rattle.ticks.specs.Steps.{Early, PlacedNext, PlacedTo}
 use Rattle.ticks.proofs.Order.{entry-below, entry-once}
 
 -- the smallest tick at place q is early, where the ticks before it are
-pub next-early : (table order ticks : List ℕ) (q : ℕ) {x : ℕ} → ((k : ℕ) → getD table k 0 < 65536) → Early order ticks q
-    → SmallestFrom 0 (PermittedAt (tablesIn table) order (λ i. getD ticks i 0) q) x → x ≤ 65536 * q
+pub next-early : (table order ticks : List ℕ) (q : ℕ) {x : ℕ} →
+    ((k : ℕ) → getD table k 0 < 65536) →
+    Early order ticks q →
+    SmallestFrom 0 (PermittedAt (tablesIn table) order (λ i. getD ticks i 0) q) x →
+    x ≤ 65536 * q
 next-early table order ticks q small e s =
-    first-tick-bound q (λ p. pairOf (tablesIn table) (getD order p 0) (getD order q 0)) (λ p. getD ticks (getD order p 0) 0) (65536 * q) s
-    (λ p h. omega (arith, e .by-place p h, small (4096 + (64 * getD order p 0 + getD order p 0)))) (omega arith)
+    first-tick-bound q
+    (λ p. pairOf (tablesIn table) (getD order p 0) (getD order q 0)) (λ p. getD ticks (getD order p 0) 0)
+    (65536 * q) s (λ p h. omega (arith, e .by-place p h, own-small (getD order p 0))) (omega arith)
+  where
+    own-small : (i : ℕ) → own (tablesIn table) i < 65536
+    own-small i = small (blockLength + (carrierLimit * i + i))
 
 -- the smallest of the ticks that ticks of earlier places permit is the same for ticks that agree there
-smallest-kept : (table order u v : List ℕ) (q : ℕ) {x : ℕ} → ((p : ℕ) → p < q → getD u (getD order p 0) 0 ≡ getD v (getD order p 0) 0)
-    → SmallestFrom 0 (PermittedAt (tablesIn table) order (λ i. getD u i 0) q) x → SmallestFrom 0 (PermittedAt (tablesIn table) order (λ i. getD v i 0) q) x
+smallest-kept : (table order u v : List ℕ) (q : ℕ) {x : ℕ} →
+    ((p : ℕ) → p < q → getD u (getD order p 0) 0 ≡ getD v (getD order p 0) 0) →
+    SmallestFrom 0 (PermittedAt (tablesIn table) order (λ i. getD u i 0) q) x →
+    SmallestFrom 0 (PermittedAt (tablesIn table) order (λ i. getD v i 0) q) x
 smallest-kept table order u v q {x} e s = record {
   not-before = s .not-before;
   permitted = carry (tablesIn table) order (λ i. getD u i 0) (λ i. getD v i 0) q x e (s .permitted);
-  least = λ y a f. s .least y a (carry (tablesIn table) order (λ i. getD v i 0) (λ i. getD u i 0) q y (λ p h. sym (e p h)) f);
+  least = λ y a f. s .least y a (back y f);
 }
+  where
+    back : (y : ℕ) → PermittedAt (tablesIn table) order (λ i. getD v i 0) q y →
+        PermittedAt (tablesIn table) order (λ i. getD u i 0) q y
+    back y = carry (tablesIn table) order (λ i. getD v i 0) (λ i. getD u i 0) q y (λ p h. sym (e p h))
 
 module _ (table order ticks₀ : List ℕ) where
   pub placed-none : PlacedTo table order ticks₀ ticks₀ 0
@@ -43,10 +59,14 @@ module _ (table order ticks₀ : List ℕ) where
     others = λ i h. refl;
   }
 
-  module _ (room : ℕ) (s : Served table order room) (ticks ticks′ : List ℕ) (q : ℕ) (inside : q < length order) (room-is : length ticks ≡ room)
+  module _ (room : ℕ) (s : TicksServed table order room) (ticks ticks′ : List ℕ) (q : ℕ)
+      (inside : q < length order) (room-is : length ticks ≡ room)
       (placed : PlacedTo table order ticks₀ ticks q) (next : PlacedNext table order ticks ticks′ q) where
     at-new : getD ticks′ (getD order q 0) 0 ≡ next .tick
-    at-new = rw (next .written) (getD-set-same ticks (getD order q 0) (next .tick) 0 (omega (arith, entry-below s q inside, s .few-places, s .enough-room)))
+    at-new =
+        rw (next .written)
+        (getD-set-same ticks (getD order q 0) (next .tick) 0
+        (omega (arith, entry-below s q inside, s .few-places, s .enough-room)))
 
     at-other : (i : ℕ) → i ≢ getD order q 0 → getD ticks′ i 0 ≡ getD ticks i 0
     at-other i n = rw (next .written) (getD-set-other ticks (getD order q 0) i (next .tick) 0 n)
@@ -54,11 +74,17 @@ module _ (table order ticks₀ : List ℕ) where
     at-earlier : (p : ℕ) → p < q → getD ticks′ (getD order p 0) 0 ≡ getD ticks (getD order p 0) 0
     at-earlier p h = at-other (getD order p 0) (entry-once s p q h inside)
 
-    smallest-at : (p : ℕ) → p < q + 1 → Dec (p < q) → SmallestFrom 0 (PermittedAt (tablesIn table) order (λ i. getD ticks′ i 0) p) (getD ticks′ (getD order p 0) 0)
-    smallest-at p h (yes l) = rw (at-earlier p l) (smallest-kept table order ticks ticks′ p (λ r k. sym (at-earlier r (omega arith))) (placed .smallest p l))
+    smallest-at : (p : ℕ) → p < q + 1 → Dec (p < q) →
+        SmallestFrom 0 (PermittedAt (tablesIn table) order (λ i. getD ticks′ i 0) p)
+        (getD ticks′ (getD order p 0) 0)
+    smallest-at p h (yes l) =
+        rw (at-earlier p l)
+        (smallest-kept table order ticks ticks′ p
+        (λ r k. sym (at-earlier r (omega arith))) (placed .smallest p l))
     smallest-at p h (no n) =
         let e : p ≡ q = omega arith in
-        rw (e, at-new) (smallest-kept table order ticks ticks′ q (λ r k. sym (at-earlier r k)) (next .smallest))
+        rw (e, at-new)
+        (smallest-kept table order ticks ticks′ q (λ r k. sym (at-earlier r k)) (next .smallest))
 
     early-at : (p : ℕ) → p < q + 1 → Dec (p < q) → getD ticks′ (getD order p 0) 0 ≤ 65536 * p
     early-at p h (yes l) = rw (at-earlier p l) (placed .early .by-place p l)
@@ -69,5 +95,6 @@ module _ (table order ticks₀ : List ℕ) where
       as-many = rw (next .written) (length-set ticks (getD order q 0) (next .tick) ∙ placed .as-many);
       smallest = λ p h. smallest-at p h (decLt p q);
       early = record { by-place = λ p h. early-at p h (decLt p q) };
-      others = λ i h. at-other i (λ e. h q (omega arith) (sym e)) ∙ placed .others i (λ p l. h p (omega arith));
+      others = λ i h.
+          at-other i (λ e. h q (omega arith) (sym e)) ∙ placed .others i (λ p l. h p (omega arith));
     }

@@ -1,4 +1,5 @@
--- The sum of the goal ticks, taken one carrier at a time from the first, and that every carrier's tick is early once all are placed. Assumes nothing.
+-- The sum of the goal ticks, taken one carrier at a time from the first, and that every carrier's tick is
+-- early once all are placed. Assumes nothing.
 use mathlib.Core.Path.{_≡_, refl}
 use mathlib.Core.List.{List}
 use Prim.Native.Nat.{ℕ, _+_, _*_, _≤_, _<_}
@@ -6,7 +7,7 @@ use native.Mathlib.Numerals.{add-one}
 use native.Mathlib.Omega.{arith}
 use lib.ListN.{length, getD}
 use Rattle.hall.specs.Ticks.{total}
-use Rattle.ticks.specs.Timing.{Served}
+use Rattle.ticks.specs.Timing.{TicksServed}
 use Rattle.ticks.specs.Steps.{Early, EarlyAll}
 use Rattle.ticks.proofs.Order.{every-carrier}
 
@@ -18,7 +19,10 @@ pub total-more : (k : ℕ) (f : ℕ → ℕ) → total (k + 1) f ≡ total k f +
 unfolding total
 total-more k f = rw add-one
 
-pub all-early : {table order : List ℕ} {room : ℕ} → Served table order room → (ticks : List ℕ) → Early order ticks (length order) → EarlyAll ticks (length order)
-all-early {order = order} s ticks e = record {
-  by-number = every-carrier s (λ i. getD ticks i 0 ≤ 4128768) (λ p h. omega (arith, e .by-place p h, s .few-places));
+pub all-early : {table order : List ℕ} {room : ℕ} →
+    TicksServed table order room → (ticks : List ℕ) →
+    Early order ticks (length order) → EarlyAll ticks (length order)
+all-early s ticks e = record {
+  by-number =
+      every-carrier s (λ i. getD ticks i 0 ≤ 4128768) (λ p h. omega (arith, e .by-place p h, s .few-places));
 }

@@ -1,9 +1,10 @@
--- `start_ticks` has one outcome: two answers with their ticks that fit the promise are equal. Where the input is served, both have the start ticks by the
--- order, which are unique for each carrier it lists, and it lists every number below its length; at other places both have what came. Equal ticks have
--- equal costs. An input is not both served and unserved. Assumes nothing.
+-- `start_ticks` has one outcome: two answers with their ticks that fit the promise are equal. Where the input
+-- is served, both have the start ticks by the order, which are unique for each carrier it lists, and it lists
+-- every number below its length; at other places both have what came. Equal ticks have equal costs. An input
+-- is not both served and unserved. Assumes nothing.
 use mathlib.Core.Path.{_≡_, refl, sym, ap, _∙_}
 use mathlib.Core.List.{List}
-use Prim.Native.Nat.{ℕ, _≤_, _<_}
+use Prim.Native.Nat.{ℕ, _<_}
 use native.Mathlib.Decide.{decLt}
 use native.Mathlib.Omega.{arith}
 use lib.ListN.{length, getD}
@@ -13,27 +14,35 @@ use Rattle.hall.specs.Plan.{tablesIn}
 use Rattle.hall.proofs.Ticks.{ticks-unique-all, total-same}
 use Rattle.ticks.specs.declared.Timed.{Timed}
 use Rattle.ticks.specs.declared.Timed.the-variants.{Cost, Unserved}
-use Rattle.ticks.specs.Timing.{Given, Timing}
+use Rattle.ticks.specs.Timing.{Given, saidTimed, Timing}
 use Rattle.ticks.proofs.Order.{entry-below, one-place}
 
 module _ (table order ticks : List ℕ) where
   module _ (u v : List ℕ) (c d : ℕ) (a : Given table order ticks u c) (b : Given table order ticks v d) where
     same-tick : (i : ℕ) → Dec (i < length order) → getD u i 0 ≡ getD v i 0
     same-tick i (yes l) =
-        ticks-unique-all (tablesIn table) order (λ j. getD u j 0) (λ j. getD v j 0) (a .start-ticks) (b .start-ticks) (entry-below (a .served)) (one-place (a .served)) i l
+        ticks-unique-all (tablesIn table) order (λ j. getD u j 0) (λ j. getD v j 0)
+        (a .start-ticks) (b .start-ticks) (entry-below (a .served)) (one-place (a .served)) i l
     same-tick i (no n) = a .others i (omega arith) ∙ sym (b .others i (omega arith))
 
     given-ticks-unique : u ≡ v
-    given-ticks-unique = ext-getD 0 u v (a .as-many ∙ sym (b .as-many)) (λ i h. same-tick i (decLt i (length order)))
+    given-ticks-unique =
+        ext-getD 0 u v (a .as-many ∙ sym (b .as-many)) (λ i h. same-tick i (decLt i (length order)))
 
     given-cost-unique : c ≡ d
     given-cost-unique =
         a .cost-is
-        ∙ total-same (length order) (goalTick (tablesIn table) (λ j. getD u j 0)) (goalTick (tablesIn table) (λ j. getD v j 0)) (λ i h. omega (arith, same-tick i (yes h)))
+        ∙ total-same (length order)
+        (goalTick (tablesIn table) (λ j. getD u j 0)) (goalTick (tablesIn table) (λ j. getD v j 0))
+        (λ i h. omega (arith, same-tick i (yes h)))
         ∙ sym (b .cost-is)
 
-  pub timing-unique : (u v : List ℕ) (r r′ : Timed) → Timing table order ticks u r → Timing table order ticks v r′ → (r ≡ r′) × (u ≡ v)
-  timing-unique u v (Cost c) (Cost d) a b = (ap Cost (given-cost-unique u v c d a b), given-ticks-unique u v c d a b)
+  pub timing-unique : (u v : List ℕ) (r r′ : Timed) →
+      Timing table order ticks u (saidTimed r) →
+      Timing table order ticks v (saidTimed r′) →
+      (r ≡ r′) × (u ≡ v)
+  timing-unique u v (Cost c) (Cost d) a b =
+      (ap Cost (given-cost-unique u v c d a b), given-ticks-unique u v c d a b)
   timing-unique u v (Cost c) Unserved a b = absurd (b .unserved (a .served))
   timing-unique u v Unserved (Cost d) a b = absurd (a .unserved (b .served))
   timing-unique u v Unserved Unserved a b = (refl, a .kept ∙ sym (b .kept))

@@ -1,12 +1,17 @@
--- What the steps of placing promise to one another. No public promise cites them.
---     heldWith       the held list with a carrier written at a place: its start tick, then the six distances of its pair with the new one (see crate rule,
---                    specs/Held.antt)
---     HeldAt         what is held at place p is the start tick of the carrier at place p of the order, and its pair with the carrier at place q
+-- What the steps of placing (rules 5.1 to 5.3) promise to one another. No public promise cites them.
+--     heldWith       the held list with a carrier written at a place: its start tick, then the six distances
+--                    of its pair with the new one (crate rule, specs/Held.antt)
+--     HeldAt         what is held at place p is the start tick of the carrier at place p of the order, and
+--                    its pair with the carrier at place q
 --     Gathered       so for the first n places
---     Early          the carrier at place p, before q, starts at tick 65,536 p at the latest, whatever the table holds
---     EarlyAll       so every one of k carriers, at most 64 in number, starts at tick 65,536 × 63 at the latest
---     PlacedNext     the carrier at place q has got the smallest tick that the carriers placed before it permit, and nothing else changed
---     PlacedTo       the carriers at the places before q have their start ticks; all other numbers are as they came
+--     Early          the carrier at place p, before q, starts at tick 65,536 p at the latest, whatever the
+--                    table holds: a number of 16 bits and one tick more for each carrier before it
+--     EarlyAll       so every one of k carriers, at most 64 in number, starts at tick 65,536 × 63 at the
+--                    latest
+--     PlacedNext     the carrier at place q has got the smallest tick that the carriers placed before it
+--                    permit, and nothing else changed
+--     PlacedTo       the carriers at the places before q have their start ticks; all other numbers are as
+--                    they came
 use mathlib.Core.Path.{_≡_}
 use mathlib.Core.Logic.{_≢_}
 use mathlib.Core.List.{List, [], _∷_}
@@ -19,7 +24,8 @@ use Rattle.hall.specs.Plan.{tablesIn}
 use Rattle.rule.specs.Held.{heldTick, heldPair}
 
 unfoldable pub heldWith : List ℕ → ℕ → ℕ → Pair → List ℕ
-heldWith held place tick p = sets held (7 * place) (tick ∷ p .ss ∷ p .gg ∷ p .ii ∷ p .jj ∷ p .ij ∷ p .ji ∷ [])
+heldWith held place tick p =
+    sets held (7 * place) (tick ∷ p .ss ∷ p .gg ∷ p .ii ∷ p .jj ∷ p .ij ∷ p .ji ∷ [])
 
 pub record HeldAt (table order ticks held : List ℕ) (q p : ℕ) : Type 0 where
   pub tick-is : heldTick held p ≡ getD ticks (getD order p 0) 0
@@ -43,6 +49,8 @@ pub record PlacedNext (table order ticks ticks′ : List ℕ) (q : ℕ) : Type 0
 
 pub record PlacedTo (table order ticks ticks′ : List ℕ) (q : ℕ) : Type 0 where
   pub as-many : length ticks′ ≡ length ticks
-  pub smallest : (p : ℕ) → p < q → SmallestFrom 0 (PermittedAt (tablesIn table) order (λ i. getD ticks′ i 0) p) (getD ticks′ (getD order p 0) 0)
+  pub smallest : (p : ℕ) → p < q →
+      SmallestFrom 0 (PermittedAt (tablesIn table) order (λ i. getD ticks′ i 0) p)
+      (getD ticks′ (getD order p 0) 0)
   pub early : Early order ticks′ q
   pub others : (i : ℕ) → ((p : ℕ) → p < q → getD order p 0 ≢ i) → getD ticks′ i 0 ≡ getD ticks i 0

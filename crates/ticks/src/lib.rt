@@ -1,17 +1,22 @@
-// Start ticks and cost by a distance table and an order. A network is not asked for: the table may hold any numbers, as long as there are
-// three blocks of 4,096. An input that is not served leaves the ticks as they came.
+// Start ticks and cost by a distance table (rule 9.8) and an order (rules 5.1 to 5.5). A network is not asked
+// for: the table may hold any numbers, as long as it has its least length. An input that is not served leaves
+// the ticks as they came. A place in the order and a carrier's number are of two types, since both go into
+// one function here and neither may be used for the other (rule 3.9).
 //
-// Work for k carriers: the one at place q is tested against the q before it, q (q + 1) pair tests at most (see crate rule), so less than
-// k³ / 3 in all. That is 87,360 for 64 carriers at most, and far fewer where few stretches overlap.
+// Work for k carriers: the one at place q is tested against the q before it, q (q + 1) pair tests at most
+// (see crate rule), so less than k³ / 3 in all. That is 87,360 for 64 carriers at most, and far fewer where
+// few stretches overlap.
 ghost use mathlib.Core.Path.{_≡_};
 ghost use Prim.Native.Nat.{ℕ, _+_, _*_, _≤_, _<_};
 ghost use lib.ListN.{length, getD};
 ghost use denote.Ref.{now};
+ghost use Rattle.hall.specs.Limits.{carrierLimit, tableLength};
 ghost use Rattle.hall.specs.Rule.{pair6, Answers};
 ghost use Rattle.hall.specs.Ticks.{pairOf, costOf};
 ghost use Rattle.hall.specs.Plan.{tablesIn};
-ghost use Rattle.ticks.specs.Timing.{Served, Timing};
+ghost use Rattle.ticks.specs.Timing.{TicksServed, Timing, saidTimed};
 ghost use Rattle.ticks.specs.Steps.{heldWith, Gathered, Early, EarlyAll, PlacedNext, PlacedTo};
+use hall::Carrier;
 use hall::Checked;
 use hall::Job;
 use hall::Place;
@@ -24,10 +29,11 @@ pub enum Timed {
     Unserved,
 }
 
-// Writes a carrier at its place in the held list: its start tick, then the six distances of its pair with the new one.
+// Writes a carrier at its place in the held list: its start tick, then the six distances of its pair with the
+// new one.
 fn hold(
     held: &mut [u32],
-    place: usize,
+    place: Place,
     tick: u32,
     ss: u16,
     gg: u16,
@@ -36,10 +42,12 @@ fn hold(
     ij: u16,
     ji: u16,
 )
-    requires { ⌜ 7 * place + 7 ≤ length (now held) ⌝ }
-    ensures { λ _. ⌜ now (held .exit) ≡ heldWith (now (held .entry)) place tick (pair6 ss gg ii jj ij ji) ⌝ }
+    requires { ⌜ 7 * (place .0) + 7 ≤ length (now held) ⌝ }
+    ensures { λ _. ⌜ now (held .exit)
+        ≡ heldWith (now (held .entry)) (place .0) tick (pair6 ss gg ii jj ij ji) ⌝ }
 {
-    let at = 7 * place;
+    let p = place.0;
+    let at = 7 * p;
     held[at] = tick;
     held[at + 1] = ss as u32;
     held[at + 2] = gg as u32;
@@ -50,89 +58,126 @@ fn hold(
 }
 
 // The same for carriers i and j, with the distances of the table.
-fn hold_pair(table: &[u16], i: usize, j: usize, tick: u32, held: &mut [u32], place: usize)
-    requires { ⌜ (12288 ≤ length (now table)) × (i < 64) × (j < 64) × (7 * place + 7 ≤ length (now held)) ⌝ }
-    ensures { λ _. ⌜ now (held .exit) ≡ heldWith (now (held .entry)) place tick (pairOf (tablesIn (now (table .entry))) i j) ⌝ }
+fn hold_pair(table: &[u16], i: Carrier, j: Carrier, tick: u32, held: &mut [u32], place: Place)
+    requires { ⌜ (tableLength ≤ length (now table))
+        × (i .0 < carrierLimit)
+        × (j .0 < carrierLimit)
+        × (7 * (place .0) + 7 ≤ length (now held)) ⌝ }
+    ensures { λ _. ⌜ now (held .exit)
+        ≡ heldWith
+        (now (held .entry))
+        (place .0)
+        tick
+        (pairOf (tablesIn (now (table .entry))) (i .0) (j .0)) ⌝ }
 {
-    let there = 64 * i + j;
-    let back = 64 * j + i;
-    let own_i = 64 * i + i;
-    let own_j = 64 * j + j;
+    let a = i.0 as usize;
+    let b = j.0 as usize;
+    let there = Job::CARRIERS * a + b;
+    let back = Job::CARRIERS * b + a;
+    let own_i = Job::CARRIERS * a + a;
+    let own_j = Job::CARRIERS * b + b;
     let ss = table[there];
-    let gg = table[8192 + there];
-    let ii = table[4096 + own_i];
-    let jj = table[4096 + own_j];
-    let ij = table[4096 + there];
-    let ji = table[4096 + back];
+    let gg = table[2 * Job::BLOCK + there];
+    let ii = table[Job::BLOCK + own_i];
+    let jj = table[Job::BLOCK + own_j];
+    let ij = table[Job::BLOCK + there];
+    let ji = table[Job::BLOCK + back];
     hold(held, place, tick, ss, gg, ii, jj, ij, ji);
 }
 
 // The carriers placed before q, each with its pair with the carrier at place q.
-fn gather(table: &[u16], order: &[u16], ticks: &[u32], q: usize, held: &mut [u32])
-    requires { ⌜ Served (now table) (now order) (length (now ticks)) × (q < length (now order)) × (7 * q ≤ length (now held)) ⌝ }
-    ensures { λ _. ⌜ Gathered (now (table .entry)) (now (order .entry)) (now (ticks .entry)) (now (held .entry)) (now (held .exit)) q q ⌝ }
+fn gather(table: &[u16], order: &[u16], ticks: &[u32], q: Place, held: &mut [u32])
+    requires { ⌜ TicksServed (now table) (now order) (length (now ticks))
+        × (q .0 < length (now order))
+        × (7 * (q .0) ≤ length (now held)) ⌝ }
+    ensures { λ _. ⌜ Gathered
+        (now (table .entry))
+        (now (order .entry))
+        (now (ticks .entry))
+        (now (held .entry))
+        (now (held .exit))
+        (q .0)
+        (q .0) ⌝ }
 {
-    let new = Place(q).carrier(order);
-    let j = new.0 as usize;
+    let end = q.0;
+    let new = q.carrier(order);
     let mut p: usize = 0;
-    while p < q {
+    while p < end {
         let placed = Place(p).carrier(order);
         let i = placed.0 as usize;
         let tick = ticks[i];
-        hold_pair(table, i, j, tick, held, p);
+        hold_pair(table, placed, new, tick, held, Place(p));
         p += 1;
     }
 }
 
-// The carrier at place q gets the smallest tick that the carriers placed before it permit. The tick is written at the carrier's number.
-fn place_next(table: &[u16], order: &[u16], q: usize, ticks: &mut [u32])
-    requires { ⌜ Served (now table) (now order) (length (now ticks)) × (q < length (now order)) × Early (now order) (now ticks) q ⌝ }
-    ensures { λ _. ⌜ PlacedNext (now (table .entry)) (now (order .entry)) (now (ticks .entry)) (now (ticks .exit)) q ⌝ }
+// The carrier at place q gets the smallest tick that the carriers placed before it permit. The tick is
+// written at the carrier's number. Seven numbers for each carrier that a job can have are room enough.
+fn place_next(table: &[u16], order: &[u16], q: Place, ticks: &mut [u32])
+    requires { ⌜ TicksServed (now table) (now order) (length (now ticks))
+        × (q .0 < length (now order))
+        × Early (now order) (now ticks) (q .0) ⌝ }
+    ensures { λ _. ⌜ PlacedNext
+        (now (table .entry))
+        (now (order .entry))
+        (now (ticks .entry))
+        (now (ticks .exit))
+        (q .0) ⌝ }
 {
+    let p = q.0;
     let mut held = [0u32; 448];
     gather(table, order, ticks, q, &mut held);
-    let end = 7 * q;
+    let end = 7 * p;
     let tick = first_tick(&held[..end], 0);
-    let new = Place(q).carrier(order);
+    let new = q.carrier(order);
     let j = new.0 as usize;
     ticks[j] = tick as u32;
 }
 
 // Every carrier gets its start tick, in the order's turn.
 fn place_all(table: &[u16], order: &[u16], ticks: &mut [u32])
-    requires { ⌜ Served (now table) (now order) (length (now ticks)) ⌝ }
-    ensures { λ _. ⌜ PlacedTo (now (table .entry)) (now (order .entry)) (now (ticks .entry)) (now (ticks .exit)) (length (now (order .entry))) ⌝ }
+    requires { ⌜ TicksServed (now table) (now order) (length (now ticks)) ⌝ }
+    ensures { λ _. ⌜ PlacedTo
+        (now (table .entry))
+        (now (order .entry))
+        (now (ticks .entry))
+        (now (ticks .exit))
+        (length (now (order .entry))) ⌝ }
 {
     let count = order.len();
     let mut q: usize = 0;
     while q < count {
-        place_next(table, order, q, ticks);
+        place_next(table, order, Place(q), ticks);
         q += 1;
     }
 }
 
 // The sum of the goal ticks of the first k carriers.
 fn cost(table: &[u16], k: usize, ticks: &[u32]) -> u32
-    requires { ⌜ (12288 ≤ length (now table)) × (k ≤ 64) × (k ≤ length (now ticks)) × EarlyAll (now ticks) k ⌝ }
+    requires { ⌜ (tableLength ≤ length (now table))
+        × (k ≤ carrierLimit)
+        × (k ≤ length (now ticks))
+        × EarlyAll (now ticks) k ⌝ }
     ensures { λ r. ⌜ r ≡ costOf (tablesIn (now (table .entry))) (λ i. getD (now (ticks .entry)) i 0) k ⌝ }
 {
     let mut sum: u32 = 0;
     let mut i: usize = 0;
     while i < k {
-        let own = 64 * i + i;
-        let distance = table[4096 + own] as u32;
+        let own = Job::CARRIERS * i + i;
+        let distance = table[Job::BLOCK + own] as u32;
         sum += ticks[i] + distance;
         i += 1;
     }
     sum
 }
 
-// Whether the table has three blocks, the order lists at most 64 different carrier numbers below its length, and there is room for 64 ticks.
+// Whether the table has its three blocks, the order lists different carrier numbers below its length, no more
+// than a job can have, and there is room for a tick of each that a job can have.
 fn served(table: &[u16], order: &[u16], room: usize) -> bool
-    ensures { λ r. ⌜ Answers r (Served (now (table .entry)) (now (order .entry)) room) ⌝ }
+    ensures { λ r. ⌜ Answers r (TicksServed (now (table .entry)) (now (order .entry)) room) ⌝ }
 {
     let count = order.len();
-    if table.len() < 12288 {
+    if table.len() < Job::TABLE {
         return false;
     }
     if count > Job::CARRIERS {
@@ -150,7 +195,12 @@ fn served(table: &[u16], order: &[u16], room: usize) -> bool
 
 // The start ticks by carrier number, and the cost. What is not served changes nothing.
 pub fn start_ticks(table: &[u16], order: &[u16], ticks: &mut [u32]) -> Timed
-    ensures { λ r. ⌜ Timing (now (table .entry)) (now (order .entry)) (now (ticks .entry)) (now (ticks .exit)) r ⌝ }
+    ensures { λ r. ⌜ Timing
+        (now (table .entry))
+        (now (order .entry))
+        (now (ticks .entry))
+        (now (ticks .exit))
+        (saidTimed r) ⌝ }
 {
     let room = ticks.len();
     let count = order.len();

@@ -1,12 +1,14 @@
--- Why a node's chain leads to all its lanes. A link goes to the last earlier place with the same number, so between two links no place holds it; following the
--- chain of u from its start, every place behind is either a link or holds another number, and at the end of the chain every place that holds u was a link. A lane is
+-- Why a node's chain leads to all its lanes. A link goes to the last earlier place with the same number, so
+-- between two links no place holds it; following the chain of u from its start, every place behind is either
+-- a link or holds another number, and at the end of the chain every place that holds u was a link. A lane is
 -- found from either of its places, since the other one stands beside it. Assumes nothing.
 --     chained-none       before the first number
 --     chained-more       a node's number more
 --     chained-skip       a number more that is no node
 --     Following          where the loop along the chain of u stands
 --     following-none     at the start of the chain
---     following-more     a link more; `following-link` and `following-earlier` say the same, and that it is an earlier one, of the code's numbers
+--     following-more     a link more; `following-link` and `following-earlier` say the same, and that it is
+--                        an earlier one, of the code's numbers
 --     following-all      at its end
 use mathlib.Core.Path.{_≡_, refl, sym, _∙_, ap, subst}
 use mathlib.Core.Logic.{_⊎_, inl, inr, _≢_}
@@ -16,17 +18,19 @@ use native.Mathlib.Decide.{ℕ-discrete, decLt}
 use native.Mathlib.Omega.{arith}
 use lib.ListN.{length, getD, set, replicate, length-set, length-replicate, getD-replicate}
 use lib.Seq.{getD-set-same, getD-set-other}
-use Rattle.hall.specs.Floor.{Lane, lower, higher}
+use Rattle.hall.specs.Limits.{nodeLimit, laneNumbers, noWalkMark}
+use Rattle.hall.specs.Floor.{Lane, Network, lower, higher}
+use Rattle.hall.proofs.LaneList.{lane-at, lane-back-at}
 use Rattle.walk.specs.Chain.{Front, Last, Unlinked, Chained}
-use Rattle.walk.specs.Turn.{Room, Marked, Grown, same, Turned}
+use Rattle.walk.specs.Turn.{ListRoom, Marked, Grown, same, Turned}
 use Rattle.walk.proofs.WalkTurn.{room-marked, size-marked, grown-marked, stays-marked, met-marked}
 
 -- ---- making the chains
 
-pub chained-none : {nodes : ℕ} {chain : List ℕ} (lanes : List ℕ) → nodes ≤ 1024 → Unlinked chain → Chained nodes lanes 0 chain
-chained-none {nodes} {chain} lanes few free = record { from-node = start; from-place = λ i h. absurd (let x : ⊥ = omega arith in x) }
+pub chained-none : {chain : List ℕ} (N : Network) → N .nodes ≤ nodeLimit → Unlinked chain → Chained N 0 chain
+chained-none {chain} N few free = record { from-node = start; from-place = λ i h. absurd (let x : ⊥ = omega arith in x) }
   where
-    start : (x : ℕ) → x < nodes → Last lanes x 0 (getD chain x 0)
+    start : (x : ℕ) → x < N .nodes → Last (N .lanes) x 0 (getD chain x 0)
     start x h = rw (free .none x (omega arith)) (record {
       within = omega arith;
       holds = λ p e. absurd (let y : ⊥ = omega arith in y);
@@ -34,8 +38,8 @@ chained-none {nodes} {chain} lanes few free = record { from-node = start; from-p
     })
 
 -- an array of zeros has no chain
-pub unlinked-zeros : Unlinked (replicate 9216 0)
-unlinked-zeros = record { places = length-replicate {A = ℕ} 9216 0; none = λ x h. getD-replicate {A = ℕ} 9216 x 0 0 (omega arith) }
+pub unlinked-zeros : Unlinked (replicate (nodeLimit + laneNumbers) 0)
+unlinked-zeros = record { places = length-replicate {A = ℕ} (nodeLimit + laneNumbers) 0; none = λ x h. getD-replicate {A = ℕ} (nodeLimit + laneNumbers) x 0 0 (omega arith) }
 
 -- a number more that is not x
 last-skip : {lanes : List ℕ} {x n past : ℕ} → getD lanes n 0 ≢ x → Last lanes x n past → Last lanes x (n + 1) past
@@ -52,54 +56,54 @@ last-here lanes n = record {
   last = λ p h k. absurd (let y : ⊥ = omega arith in y);
 }
 
-pub chained-skip : {nodes : ℕ} {lanes : List ℕ} {i : ℕ} {chain : List ℕ} → nodes ≤ getD lanes i 0 → Chained nodes lanes i chain → Chained nodes lanes (i + 1) chain
-chained-skip {nodes} {lanes} {i} {chain} off c = record {
+pub chained-skip : {N : Network} {i : ℕ} {chain : List ℕ} → N .nodes ≤ getD (N .lanes) i 0 → Chained N i chain → Chained N (i + 1) chain
+chained-skip {N} {i} {chain} off c = record {
   from-node = λ x h. last-skip (λ e. let y : ⊥ = omega arith in y) (c .from-node x h);
   from-place = λ j h k. place j h k (ℕ-discrete j i);
 }
   where
-    place : (j : ℕ) → j < i + 1 → getD lanes j 0 < nodes → Dec (j ≡ i) → Last lanes (getD lanes j 0) j (getD chain (1024 + j) 0)
+    place : (j : ℕ) → j < i + 1 → getD (N .lanes) j 0 < N .nodes → Dec (j ≡ i) → Last (N .lanes) (getD (N .lanes) j 0) j (getD chain (nodeLimit + j) 0)
     place j h k (yes e) = absurd (let q = rw e at k in let y : ⊥ = omega arith in y)
     place j h k (no e) = c .from-place j (omega arith) k
 
-module _ {nodes : ℕ} {lanes : List ℕ} {i : ℕ} {chain : List ℕ} (few : nodes ≤ 1024) (places : length chain ≡ 9216) (short : i < 8192) (c : Chained nodes lanes i chain)
-    (node : getD lanes i 0 < nodes) where
+module _ {N : Network} {i : ℕ} {chain : List ℕ} (few : N .nodes ≤ nodeLimit) (places : length chain ≡ nodeLimit + laneNumbers) (short : i < laneNumbers) (c : Chained N i chain)
+    (node : getD (N .lanes) i 0 < N .nodes) where
   chain₁ : List ℕ
-  chain₁ = set chain (1024 + i) (getD chain (getD lanes i 0) 0)
+  chain₁ = set chain (nodeLimit + i) (getD chain (getD (N .lanes) i 0) 0)
 
   chain₂ : List ℕ
-  chain₂ = set chain₁ (getD lanes i 0) (i + 1)
+  chain₂ = set chain₁ (getD (N .lanes) i 0) (i + 1)
 
-  at-node : getD chain₂ (getD lanes i 0) 0 ≡ i + 1
+  at-node : getD chain₂ (getD (N .lanes) i 0) 0 ≡ i + 1
   unfolding chain₁ chain₂
-  at-node = getD-set-same chain₁ (getD lanes i 0) (i + 1) 0 (rw (length-set chain (1024 + i) (getD chain (getD lanes i 0) 0), places) (omega arith))
+  at-node = getD-set-same chain₁ (getD (N .lanes) i 0) (i + 1) 0 (rw (length-set chain (nodeLimit + i) (getD chain (getD (N .lanes) i 0) 0), places) (omega arith))
 
-  at-other : (y : ℕ) → y < 1024 → y ≢ getD lanes i 0 → getD chain₂ y 0 ≡ getD chain y 0
+  at-other : (y : ℕ) → y < nodeLimit → y ≢ getD (N .lanes) i 0 → getD chain₂ y 0 ≡ getD chain y 0
   unfolding chain₁ chain₂
-  at-other y h n = getD-set-other chain₁ (getD lanes i 0) y (i + 1) 0 n
-      ∙ getD-set-other chain (1024 + i) y (getD chain (getD lanes i 0) 0) 0 (λ e. let z : ⊥ = omega arith in z)
+  at-other y h n = getD-set-other chain₁ (getD (N .lanes) i 0) y (i + 1) 0 n
+      ∙ getD-set-other chain (nodeLimit + i) y (getD chain (getD (N .lanes) i 0) 0) 0 (λ e. let z : ⊥ = omega arith in z)
 
-  at-place : getD chain₂ (1024 + i) 0 ≡ getD chain (getD lanes i 0) 0
+  at-place : getD chain₂ (nodeLimit + i) 0 ≡ getD chain (getD (N .lanes) i 0) 0
   unfolding chain₁ chain₂
-  at-place = getD-set-other chain₁ (getD lanes i 0) (1024 + i) (i + 1) 0 (λ e. let z : ⊥ = omega arith in z)
-      ∙ getD-set-same chain (1024 + i) (getD chain (getD lanes i 0) 0) 0 (rw places (omega arith))
+  at-place = getD-set-other chain₁ (getD (N .lanes) i 0) (nodeLimit + i) (i + 1) 0 (λ e. let z : ⊥ = omega arith in z)
+      ∙ getD-set-same chain (nodeLimit + i) (getD chain (getD (N .lanes) i 0) 0) 0 (rw places (omega arith))
 
-  at-earlier : (j : ℕ) → j < i → getD chain₂ (1024 + j) 0 ≡ getD chain (1024 + j) 0
+  at-earlier : (j : ℕ) → j < i → getD chain₂ (nodeLimit + j) 0 ≡ getD chain (nodeLimit + j) 0
   unfolding chain₁ chain₂
-  at-earlier j h = getD-set-other chain₁ (getD lanes i 0) (1024 + j) (i + 1) 0 (λ e. let z : ⊥ = omega arith in z)
-      ∙ getD-set-other chain (1024 + i) (1024 + j) (getD chain (getD lanes i 0) 0) 0 (λ e. let z : ⊥ = omega arith in z)
+  at-earlier j h = getD-set-other chain₁ (getD (N .lanes) i 0) (nodeLimit + j) (i + 1) 0 (λ e. let z : ⊥ = omega arith in z)
+      ∙ getD-set-other chain (nodeLimit + i) (nodeLimit + j) (getD chain (getD (N .lanes) i 0) 0) 0 (λ e. let z : ⊥ = omega arith in z)
 
-  from-node : (y : ℕ) → y < nodes → Dec (y ≡ getD lanes i 0) → Last lanes y (i + 1) (getD chain₂ y 0)
-  from-node y h (yes e) = rw (e, at-node) (last-here lanes i)
+  from-node : (y : ℕ) → y < N .nodes → Dec (y ≡ getD (N .lanes) i 0) → Last (N .lanes) y (i + 1) (getD chain₂ y 0)
+  from-node y h (yes e) = rw (e, at-node) (last-here (N .lanes) i)
   from-node y h (no e) = rw (at-other y (omega arith) e) (last-skip (λ z. e (sym z)) (c .from-node y h))
 
-  from-place : (j : ℕ) → j < i + 1 → getD lanes j 0 < nodes → Dec (j ≡ i) → Last lanes (getD lanes j 0) j (getD chain₂ (1024 + j) 0)
-  from-place j h k (yes e) = rw (e, at-place) (c .from-node (getD lanes i 0) node)
+  from-place : (j : ℕ) → j < i + 1 → getD (N .lanes) j 0 < N .nodes → Dec (j ≡ i) → Last (N .lanes) (getD (N .lanes) j 0) j (getD chain₂ (nodeLimit + j) 0)
+  from-place j h k (yes e) = rw (e, at-place) (c .from-node (getD (N .lanes) i 0) node)
   from-place j h k (no e) = rw (at-earlier j (omega arith)) (c .from-place j (omega arith) k)
 
-  pub chained-more : Chained nodes lanes (i + 1) (set (set chain (1024 + i) (getD chain (getD lanes i 0) 0)) (getD lanes i 0) (i + 1))
+  pub chained-more : Chained N (i + 1) (set (set chain (nodeLimit + i) (getD chain (getD (N .lanes) i 0) 0)) (getD (N .lanes) i 0) (i + 1))
   unfolding chain₁ chain₂
-  chained-more = record { from-node = λ y h. from-node y h (ℕ-discrete y (getD lanes i 0)); from-place = λ j h k. from-place j h k (ℕ-discrete j i) }
+  chained-more = record { from-node = λ y h. from-node y h (ℕ-discrete y (getD (N .lanes) i 0)); from-place = λ j h k. from-place j h k (ℕ-discrete j i) }
 
 -- ---- following a chain
 
@@ -107,45 +111,45 @@ module _ {nodes : ℕ} {lanes : List ℕ} {i : ℕ} {chain : List ℕ} (few : no
 abbrev pub other : ℕ → ℕ
 other p = p + 1 - 2 * (p % 2)
 
+-- the lane that has place p joins the two, whichever of them p has
 lane-of : {lanes : List ℕ} {n : ℕ} → Front lanes n → (u p : ℕ) → p < n → getD lanes p 0 ≡ u → Lane lanes u (getD lanes (other p) 0)
-lane-of {lanes} {n} front u p h e = record { k = p / 2; inside = omega (arith, front .whole, front .within); ends = cases (ℕ-discrete (p % 2) 0) }
+lane-of {lanes} {n} front u p h e = cases (ℕ-discrete (p % 2) 0)
   where
-    cases : Dec (p % 2 ≡ 0)
-        → ((lower lanes (p / 2) ≡ u) × (higher lanes (p / 2) ≡ getD lanes (other p) 0)) ⊎ ((lower lanes (p / 2) ≡ getD lanes (other p) 0) × (higher lanes (p / 2) ≡ u))
+    cases : Dec (p % 2 ≡ 0) → Lane lanes u (getD lanes (other p) 0)
     cases (yes even) =
-        let a : 2 * (p / 2) ≡ p = omega arith in
-        let b : 2 * (p / 2) + 1 ≡ other p = omega arith in
-        inl (ap (λ (x : ℕ). getD lanes x 0) a ∙ e, ap (λ (x : ℕ). getD lanes x 0) b)
+        let beside : p + 1 ≡ other p = omega arith in
+        lane-at lanes p even (omega (arith, front .whole, front .within)) e (ap (λ (x : ℕ). getD lanes x 0) beside)
     cases (no odd) =
-        let a : 2 * (p / 2) + 1 ≡ p = omega arith in
-        let b : 2 * (p / 2) ≡ other p = omega arith in
-        inr (ap (λ (x : ℕ). getD lanes x 0) b, ap (λ (x : ℕ). getD lanes x 0) a ∙ e)
+        let beside : 2 * (p / 2) ≡ other p = omega arith in
+        let self : 2 * (p / 2) + 1 ≡ p = omega arith in
+        lane-back-at lanes (2 * (p / 2)) (omega arith) (omega (arith, front .whole, front .within))
+        (ap (λ (x : ℕ). getD lanes x 0) beside) (ap (λ (x : ℕ). getD lanes x 0) self ∙ e)
 
-pub record Following (nodes : ℕ) (lanes : List ℕ) (n u label : ℕ) (row₀ list₀ : List ℕ) (tail past : ℕ) (row list : List ℕ) (end : ℕ) : Type 0 where
+pub record Following (N : Network) (n u label : ℕ) (row₀ list₀ : List ℕ) (tail past : ℕ) (row list : List ℕ) (end : ℕ) : Type 0 where
   -- the next link is one of the chained places, and holds u
   pub within : past ≤ n
-  pub holds : (p : ℕ) → p + 1 ≡ past → getD lanes p 0 ≡ u
+  pub holds : (p : ℕ) → p + 1 ≡ past → getD (N .lanes) p 0 ≡ u
   -- the list is in order
-  pub room : Room nodes row list end
+  pub room : ListRoom (N .nodes) row list end
   -- only neighbours of u without a label were labelled
-  pub grown : Grown nodes lanes u label row₀ list₀ tail row list end
+  pub grown : Grown N u label row₀ list₀ tail row list end
   -- the row is as long as it came
   pub size : length row ≡ length row₀
   -- what the lanes behind the next link lead to from u is labelled
-  pub met : (p : ℕ) → past ≤ p → p < n → getD lanes p 0 ≡ u → getD lanes (other p) 0 < nodes → getD row (getD lanes (other p) 0) 0 ≢ 65535
+  pub met : (p : ℕ) → past ≤ p → p < n → getD (N .lanes) p 0 ≡ u → getD (N .lanes) (other p) 0 < N .nodes → getD row (getD (N .lanes) (other p) 0) 0 ≢ noWalkMark
 
-pub following-none : {nodes : ℕ} {lanes : List ℕ} {n : ℕ} {chain row list : List ℕ} {tail u : ℕ} (label : ℕ) → Chained nodes lanes n chain → u < nodes
-    → Room nodes row list tail
-    → Following nodes lanes n u label row list tail (getD chain u 0) row list tail
+pub following-none : {N : Network} {n : ℕ} {chain row list : List ℕ} {tail u : ℕ} (label : ℕ) → Chained N n chain → u < N .nodes
+    → ListRoom (N .nodes) row list tail
+    → Following N n u label row list tail (getD chain u 0) row list tail
 following-none {u = u} label c h room =
     let start = c .from-node u h in
     record { within = start .within; holds = start .holds; room = room; grown = same; size = refl; met = λ p k j e o. absurd (start .last p k j e) }
 
-pub following-more : {nodes : ℕ} {lanes : List ℕ} {n u label : ℕ} {chain row₀ list₀ : List ℕ} {tail : ℕ} {row list : List ℕ} {end : ℕ} {row′ list′ : List ℕ} {end′ : ℕ} (p : ℕ)
-    → label ≢ 65535 → Front lanes n → Chained nodes lanes n chain → u < nodes → Following nodes lanes n u label row₀ list₀ tail (p + 1) row list end
-    → Marked nodes u u (getD lanes (other p) 0) label row list end row′ list′ end′
-    → Following nodes lanes n u label row₀ list₀ tail (getD chain (1024 + p) 0) row′ list′ end′
-following-more {nodes} {lanes} {n} {u} {label} {chain} {row′ = row′} p l front c node f m = record {
+pub following-more : {N : Network} {n u label : ℕ} {chain row₀ list₀ : List ℕ} {tail : ℕ} {row list : List ℕ} {end : ℕ} {row′ list′ : List ℕ} {end′ : ℕ} (p : ℕ)
+    → label ≢ noWalkMark → Front (N .lanes) n → Chained N n chain → u < N .nodes → Following N n u label row₀ list₀ tail (p + 1) row list end
+    → Marked (N .nodes) u u (getD (N .lanes) (other p) 0) label row list end row′ list′ end′
+    → Following N n u label row₀ list₀ tail (getD chain (nodeLimit + p) 0) row′ list′ end′
+following-more {N} {n} {u} {label} {chain} {row′ = row′} p l front c node f m = record {
   within = omega (arith, next .within, f .within);
   holds = next .holds;
   room = room-marked l (f .room) m;
@@ -157,45 +161,45 @@ following-more {nodes} {lanes} {n} {u} {label} {chain} {row′ = row′} p l fro
     inside : p < n
     inside = omega (arith, f .within)
 
-    here : getD lanes p 0 ≡ u
+    here : getD (N .lanes) p 0 ≡ u
     here = f .holds p refl
 
-    next : Last lanes u p (getD chain (1024 + p) 0)
+    next : Last (N .lanes) u p (getD chain (nodeLimit + p) 0)
     next = rw here at (c .from-place p inside (rw here node))
 
-    cases : (q : ℕ) → getD chain (1024 + p) 0 ≤ q → q < n → getD lanes q 0 ≡ u → getD lanes (other q) 0 < nodes → Dec (q ≡ p) → Dec (q < p)
-        → getD row′ (getD lanes (other q) 0) 0 ≢ 65535
+    cases : (q : ℕ) → getD chain (nodeLimit + p) 0 ≤ q → q < n → getD (N .lanes) q 0 ≡ u → getD (N .lanes) (other q) 0 < N .nodes → Dec (q ≡ p) → Dec (q < p)
+        → getD row′ (getD (N .lanes) (other q) 0) 0 ≢ noWalkMark
     cases q h k e o (yes x) y = rw x (met-marked l (f .room) m refl (rw x at o))
     cases q h k e o (no x) (yes y) = absurd (next .last q h y e)
-    cases q h k e o (no x) (no y) = stays-marked l (f .room) m (getD lanes (other q) 0) (f .met q (omega arith) k e o)
+    cases q h k e o (no x) (no y) = stays-marked l (f .room) m (getD (N .lanes) (other q) 0) (f .met q (omega arith) k e o)
 
 -- the same with the link as the code has it
-module _ {nodes : ℕ} {lanes : List ℕ} {n u label : ℕ} {row₀ list₀ : List ℕ} {tail past : ℕ} {row list : List ℕ} {end : ℕ} (some : 0 < past) where
-  at-link : Following nodes lanes n u label row₀ list₀ tail past row list end → Following nodes lanes n u label row₀ list₀ tail (past - 1 + 1) row list end
-  at-link f = let e : past ≡ past - 1 + 1 = omega arith in subst (λ (x : ℕ). Following nodes lanes n u label row₀ list₀ tail x row list end) e f
+module _ {N : Network} {n u label : ℕ} {row₀ list₀ : List ℕ} {tail past : ℕ} {row list : List ℕ} {end : ℕ} (some : 0 < past) where
+  at-link : Following N n u label row₀ list₀ tail past row list end → Following N n u label row₀ list₀ tail (past - 1 + 1) row list end
+  at-link f = let e : past ≡ past - 1 + 1 = omega arith in subst (λ (x : ℕ). Following N n u label row₀ list₀ tail x row list end) e f
 
-  pub following-link : {chain row′ list′ : List ℕ} {end′ : ℕ} → label ≢ 65535 → Front lanes n → Chained nodes lanes n chain → u < nodes
-      → Following nodes lanes n u label row₀ list₀ tail past row list end → Marked nodes u u (getD lanes (other (past - 1)) 0) label row list end row′ list′ end′
-      → Following nodes lanes n u label row₀ list₀ tail (getD chain (1024 + (past - 1)) 0) row′ list′ end′
+  pub following-link : {chain row′ list′ : List ℕ} {end′ : ℕ} → label ≢ noWalkMark → Front (N .lanes) n → Chained N n chain → u < N .nodes
+      → Following N n u label row₀ list₀ tail past row list end → Marked (N .nodes) u u (getD (N .lanes) (other (past - 1)) 0) label row list end row′ list′ end′
+      → Following N n u label row₀ list₀ tail (getD chain (nodeLimit + (past - 1)) 0) row′ list′ end′
   following-link l front c node f m = following-more (past - 1) l front c node (at-link f) m
 
-  pub following-earlier : {chain : List ℕ} → Chained nodes lanes n chain → u < nodes → Following nodes lanes n u label row₀ list₀ tail past row list end
-      → getD chain (1024 + (past - 1)) 0 < past
+  pub following-earlier : {chain : List ℕ} → Chained N n chain → u < N .nodes → Following N n u label row₀ list₀ tail past row list end
+      → getD chain (nodeLimit + (past - 1)) 0 < past
   following-earlier c node f =
       let here = f .holds (past - 1) (omega arith) in
       omega (arith, c .from-place (past - 1) (omega (arith, f .within)) (rw here node) .within)
 
-pub following-all : {nodes : ℕ} {lanes : List ℕ} {n u label : ℕ} {row₀ list₀ : List ℕ} {tail : ℕ} {row list : List ℕ} {end : ℕ} → Front lanes n
-    → Following nodes lanes n u label row₀ list₀ tail 0 row list end → Turned nodes lanes u label 0 n row₀ list₀ tail row list end
-following-all {nodes} {lanes} {n} {u} {row = row} front f = record { grown = f .grown; met = λ b h l i j. cases b h l j (l .ends) }
+pub following-all : {N : Network} {n u label : ℕ} {row₀ list₀ : List ℕ} {tail : ℕ} {row list : List ℕ} {end : ℕ} → Front (N .lanes) n
+    → Following N n u label row₀ list₀ tail 0 row list end → Turned N u label 0 n row₀ list₀ tail row list end
+following-all {N} {n} {u} {row = row} front f = record { grown = f .grown; met = λ b h l i j. cases b h l j (l .ends) }
   where
-    cases : (b : ℕ) → b < nodes → (l : Lane lanes u b) → 2 * l .k < n
-        → ((lower lanes (l .k) ≡ u) × (higher lanes (l .k) ≡ b)) ⊎ ((lower lanes (l .k) ≡ b) × (higher lanes (l .k) ≡ u)) → getD row b 0 ≢ 65535
+    cases : (b : ℕ) → b < N .nodes → (l : Lane (N .lanes) u b) → 2 * l .k < n
+        → ((lower (N .lanes) (l .k) ≡ u) × (higher (N .lanes) (l .k) ≡ b)) ⊎ ((lower (N .lanes) (l .k) ≡ b) × (higher (N .lanes) (l .k) ≡ u)) → getD row b 0 ≢ noWalkMark
     cases b h l j (inl x) =
         let o : other (2 * l .k) ≡ 2 * l .k + 1 = omega arith in
-        let e : getD lanes (other (2 * l .k)) 0 ≡ b = ap (λ (y : ℕ). getD lanes y 0) o ∙ x .1 in
+        let e : getD (N .lanes) (other (2 * l .k)) 0 ≡ b = ap (λ (y : ℕ). getD (N .lanes) y 0) o ∙ x .1 in
         rw e at (f .met (2 * l .k) (omega arith) j (x .0) (rw e h))
     cases b h l j (inr x) =
         let o : other (2 * l .k + 1) ≡ 2 * l .k = omega arith in
-        let e : getD lanes (other (2 * l .k + 1)) 0 ≡ b = ap (λ (y : ℕ). getD lanes y 0) o ∙ x .0 in
+        let e : getD (N .lanes) (other (2 * l .k + 1)) 0 ≡ b = ap (λ (y : ℕ). getD (N .lanes) y 0) o ∙ x .0 in
         rw e at (f .met (2 * l .k + 1) (omega arith) (omega (arith, front .whole)) (x .1) (rw e h))

@@ -1,26 +1,29 @@
--- Why the waiting list never overflows. Its first places are different nodes, so by the pigeon's law there are at most as many as nodes; and where there are just as
--- many, every node is listed and hence labelled, so a node without a label always finds a place. Then what a store into row and list changes, and that it leaves
--- the list in the same order. Assumes nothing.
+-- Why the waiting list never overflows. Its first places are different nodes, so by the pigeon's law there
+-- are at most as many as nodes; and where there are just as many, every node is listed and hence labelled, so
+-- a node without a label always finds a place. Then what a store into row and list changes, and that it
+-- leaves the list in the same order. Assumes nothing.
 --     room-tail      no more places are taken than there are nodes
 --     room-next      a node without a label finds a place
 --     room-more      a node that is labelled and listed leaves the list in order
 --     room-grown     so do several
-use mathlib.Core.Path.{_≡_, refl, sym, _∙_, ap}
+use mathlib.Core.Path.{_≡_, sym, _∙_, ap}
 use mathlib.Core.Logic.{_≢_}
 use mathlib.Core.List.{List}
-use Prim.Native.Nat.{ℕ, suc, _+_, _≤_, _<_}
+use Prim.Native.Nat.{ℕ, _+_, _≤_, _<_}
 use native.Mathlib.Decide.{ℕ-discrete, decLt}
 use native.Mathlib.Omega.{arith}
-use lib.ListN.{length, getD, set, length-set}
+use lib.ListN.{getD, set, length-set}
 use lib.Seq.{getD-set-same, getD-set-other}
+use Rattle.hall.specs.Limits.{noWalkMark}
+use Rattle.hall.specs.Floor.{Network}
 use Rattle.hall.proofs.Pigeon.{pigeon, all-listed, Listed}
-use Rattle.walk.specs.Turn.{Room, Grown, same, more}
+use Rattle.walk.specs.Turn.{ListRoom, Grown, same, more}
 
-module _ {nodes : ℕ} {row list : List ℕ} {tail : ℕ} (room : Room nodes row list tail) where
+module _ {nodes : ℕ} {row list : List ℕ} {tail : ℕ} (room : ListRoom nodes row list tail) where
   pub room-tail : tail ≤ nodes
   room-tail = pigeon nodes tail (λ i. getD list i 0) (room .stand) (room .differ)
 
-  module _ (b : ℕ) (on-floor : b < nodes) (fresh : getD row b 0 ≡ 65535) where
+  module _ (b : ℕ) (on-floor : b < nodes) (fresh : getD row b 0 ≡ noWalkMark) where
     pub room-next : tail < nodes
     room-next = cases (decLt tail nodes)
       where
@@ -49,7 +52,7 @@ module _ {nodes : ℕ} {row list : List ℕ} {tail : ℕ} (room : Room nodes row
       label-old v h = getD-set-other row b v label 0 h
 
       -- a node with a label keeps it
-      pub label-stays : (v : ℕ) → getD row v 0 ≢ 65535 → getD (set row b label) v 0 ≡ getD row v 0
+      pub label-stays : (v : ℕ) → getD row v 0 ≢ noWalkMark → getD (set row b label) v 0 ≡ getD row v 0
       label-stays v h = label-old v (λ e. h (ap (λ (x : ℕ). getD row x 0) e ∙ fresh))
 
       pub listed-stays : (i : ℕ) → i < tail → getD (set row b label) (getD (set list tail b) i 0) 0 ≡ getD row (getD list i 0) 0
@@ -58,7 +61,7 @@ module _ {nodes : ℕ} {row list : List ℕ} {tail : ℕ} (room : Room nodes row
       pub listed-new : getD (set row b label) (getD (set list tail b) tail 0) 0 ≡ label
       listed-new = rw place-new label-new
 
-      pub room-more : label ≢ 65535 → Room nodes (set row b label) (set list tail b) (tail + 1)
+      pub room-more : label ≢ noWalkMark → ListRoom nodes (set row b label) (set list tail b) (tail + 1)
       room-more l = record {
         few = room .few;
         wide = rw (length-set row b label) (room .wide);
@@ -72,7 +75,7 @@ module _ {nodes : ℕ} {row list : List ℕ} {tail : ℕ} (room : Room nodes row
           stand i h (yes e) = rw (e, place-new) on-floor
           stand i h (no e) = rw (place-old i (omega arith)) (room .stand i (omega arith))
 
-          labelled : (i : ℕ) → i < tail + 1 → Dec (i ≡ tail) → getD (set row b label) (getD (set list tail b) i 0) 0 ≢ 65535
+          labelled : (i : ℕ) → i < tail + 1 → Dec (i ≡ tail) → getD (set row b label) (getD (set list tail b) i 0) 0 ≢ noWalkMark
           labelled i h (yes e) = rw (e, listed-new) l
           labelled i h (no e) = rw (listed-stays i (omega arith)) (room .labelled i (omega arith))
 
@@ -88,7 +91,7 @@ module _ {nodes : ℕ} {row list : List ℕ} {tail : ℕ} (room : Room nodes row
               absurd (new i (omega arith) (sym (place-old i (omega arith)) ∙ e ∙ ap (λ (x : ℕ). getD (set list tail b) x 0) q ∙ place-new))
           differ i j h k e (no p) (no q) = room .differ i j (omega arith) (omega arith) (sym (place-old i (omega arith)) ∙ e ∙ place-old j (omega arith))
 
-pub room-grown : {nodes : ℕ} {lanes : List ℕ} {u label : ℕ} {row list : List ℕ} {tail : ℕ} {row′ list′ : List ℕ} {tail′ : ℕ}
-    → Room nodes row list tail → label ≢ 65535 → Grown nodes lanes u label row list tail row′ list′ tail′ → Room nodes row′ list′ tail′
+pub room-grown : {N : Network} {u label : ℕ} {row list : List ℕ} {tail : ℕ} {row′ list′ : List ℕ} {tail′ : ℕ}
+    → ListRoom (N .nodes) row list tail → label ≢ noWalkMark → Grown N u label row list tail row′ list′ tail′ → ListRoom (N .nodes) row′ list′ tail′
 room-grown room l same = room
 room-grown {label = label} room l (more b g lane on-floor fresh) = room-more (room-grown room l g) b on-floor fresh label l

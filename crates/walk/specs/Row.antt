@@ -1,26 +1,28 @@
--- A row of distances from one source (page 01, "Network, moves and time" and "What the planner covers"). Nothing here names a search.
---     Served      what the walk takes: at most 1,024 nodes, a source among them, and a place of the row for each node. Every lane list is taken: a walk stands
---                 on nodes, so a lane with an end that is no node is in no walk
---     Filled      the row afterwards: "The distance of two nodes is the least number of lanes in a walk between them", "65,535 for 'no walk'", at each node's place;
---                 "Places beyond a least length are never touched"
---     Rowed       the walk's answer and the row that it leaves: filled, or refused and as it came
+-- A row of distances from one source (rules 2.5, 2.6 and 9.2). Nothing here names a search.
+--     RowServed    what the walk takes: at most 1,024 nodes, a source among them, and a place of the row for
+--                  each node. Every lane list is taken: a walk stands on nodes, so a lane with an end that is
+--                  no node is in no walk
+--     RowFilled    the row afterwards: at each node's place the distance from the source to that node, or the
+--                  mark where no walk joins the two; the places past the nodes are as they came
+--     Rowed        the walk's answer and the row that it leaves: filled, or refused and as it came
 use mathlib.Core.Path.{_≡_}
 use mathlib.Core.Bool.{Bool, true, false}
 use mathlib.Core.List.{List}
 use Prim.Native.Nat.{ℕ, _≤_, _<_}
 use lib.ListN.{length, getD}
-use Rattle.hall.specs.Floor.{DistanceIs, floorOf}
+use Rattle.hall.specs.Limits.{nodeLimit}
+use Rattle.hall.specs.Floor.{DistanceIs, Network, floor}
 
-pub record Served (nodes source : ℕ) (row : List ℕ) : Type 0 where
-  pub few : nodes ≤ 1024
-  pub on-floor : source < nodes
-  pub wide : nodes ≤ length row
+pub record RowServed (N : Network) (source : ℕ) (row : List ℕ) : Type 0 where
+  pub few : N .nodes ≤ nodeLimit
+  pub on-floor : source < N .nodes
+  pub wide : N .nodes ≤ length row
 
-pub record Filled (nodes : ℕ) (lanes : List ℕ) (source : ℕ) (row left : List ℕ) : Type 0 where
+pub record RowFilled (N : Network) (source : ℕ) (row left : List ℕ) : Type 0 where
   pub size : length left ≡ length row
-  pub holds : (v : ℕ) → v < nodes → DistanceIs (floorOf nodes lanes) source v (getD left v 0)
-  pub beyond : (v : ℕ) → nodes ≤ v → getD left v 0 ≡ getD row v 0
+  pub holds : (v : ℕ) → v < N .nodes → DistanceIs (floor N) source v (getD left v 0)
+  pub beyond : (v : ℕ) → N .nodes ≤ v → getD left v 0 ≡ getD row v 0
 
-pub data Rowed (nodes : ℕ) (lanes : List ℕ) (source : ℕ) (row left : List ℕ) (r : Bool) : Type 0 where
-  filled : r ≡ true → Served nodes source row → Filled nodes lanes source row left → Rowed nodes lanes source row left r
-  refused : r ≡ false → ¬ Served nodes source row → left ≡ row → Rowed nodes lanes source row left r
+pub data Rowed (N : Network) (source : ℕ) (row left : List ℕ) (r : Bool) : Type 0 where
+  filled : r ≡ true → RowServed N source row → RowFilled N source row left → Rowed N source row left r
+  refused : r ≡ false → ¬ RowServed N source row → left ≡ row → Rowed N source row left r

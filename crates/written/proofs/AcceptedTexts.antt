@@ -1,14 +1,16 @@
--- An accepted text is the written form of its job, and each of its lines is fine. The sections are gone through from the last to the first: what a section and
--- all behind it were read from is their written form, and the checks found nothing in it. Each part of the whole hands on what it has read. Assumes nothing.
---     OrderRead, CarriersRead     what the text from ORDER on, and from CARRIERS on, is and says of the job that was read
+-- An accepted text is the written form of its job, and each of its lines is fine. The sections are gone
+-- through from the last to the first: what a section and all behind it were read from is their written form,
+-- and the checks found nothing in it. Each part of the whole hands on what it has read. Assumes nothing.
+--     OrderRead, CarriersRead     what the text from ORDER on, and from CARRIERS on, is and says of the job
+--                                 that was read
 --     AcceptedText                the same of the whole
 use mathlib.Core.Path.{_≡_, refl, _∙_, ap, subst}
 use mathlib.Core.List.{List, [], _∷_, _++_, append-nil}
 use Prim.Native.Nat.{ℕ, _+_, _*_, _≤_, _<_}
 use native.Mathlib.Omega.{arith}
 use lib.ListN.{length, take}
-use Rattle.hall.specs.Floor.{laneCount}
-use Rattle.hall.specs.Job.{Numbers, carriers}
+use Rattle.hall.specs.Floor.{laneCount, networkOf}
+use Rattle.hall.specs.Job.{Numbers, jobOf, carriers}
 use Rattle.text.specs.declared.checks.Verdict.the-variants.{Fine}
 use Rattle.text.specs.Lines.{takePair, takeEntry, NODES, LANES, CARRIERS, ORDER}
 use Rattle.text.specs.Checks.{nodesFit, lanesFit, carriersFit, orderFits, laneVerdict, moveVerdict, orderVerdict}
@@ -27,15 +29,16 @@ orderText j = countLine ORDER (length (j .order)) ++ oneLines (j .order)
 abbrev carriersText : Numbers → List ℕ
 carriersText j = countLine CARRIERS (carriers j) ++ (pairLines (j .moves) ++ orderText j)
 
--- the checks of a line of the order look at no entry behind it (Fronts.antt), in the words of a section of one number an entry
+-- the checks of a line of the order look at no entry behind it (Fronts.antt), in the words of a section of
+-- one number an entry
 pub place-front : (carriers : ℕ) (l : List ℕ) (p : ℕ) → orderVerdict carriers (take (1 * (p + 1)) l) p ≡ orderVerdict carriers l p
 place-front carriers l p = let e : 1 * (p + 1) ≡ p + 1 = omega arith in rw e (order-front l carriers p)
 
 -- ---- from ORDER on
 
 record OrderRead (n k : ℕ) (lanes moves t : List ℕ) (j : Numbers) : Type 0 where
-  nodes : n ≡ j .nodes
-  lanes-same : lanes ≡ j .lanes
+  nodes : n ≡ j .network .nodes
+  lanes-same : lanes ≡ j .network .lanes
   moves-same : moves ≡ j .moves
   spells : t ≡ orderText j
   counted-so : length (j .order) ≡ k
@@ -47,7 +50,7 @@ at-end j line [] e = (refl, cc)
 at-end j line (b ∷ t) e = no-refusal e
 
 order-parts : (n k c : ℕ) (lanes moves t order rest : List ℕ) → SectionRead 1 (orderFits k) (orderVerdict k) oneLines ORDER c k t order rest → rest ≡ []
-    → OrderRead n k lanes moves t (record { nodes = n; lanes = lanes; moves = moves; order = order })
+    → OrderRead n k lanes moves t (jobOf (networkOf n lanes) moves order)
 order-parts n k c lanes moves t order rest s e =
     let same = order-count-test k c .passes (s .fit) in
     let long : c ≡ length order = omega (arith, s .sized) in
@@ -65,19 +68,19 @@ unfolding fromOrder
 order-read n m k lanes moves t {j} h =
     let p = onward-job (counted ORDER (orderFits k) (4 + m + k) t) _ h in
     let q = onward-job (entries takeEntry (orderVerdict k) (5 + m + k) 0 [] k (p .1)) _ (p .3) in
-    let e = at-end (record { nodes = n; lanes = lanes; moves = moves; order = q .0 }) (5 + m + k + k) (q .1) (q .3) in
+    let e = at-end (jobOf (networkOf n lanes) moves (q .0)) (5 + m + k + k) (q .1) (q .3) in
     let s = section-front 1 takeEntry oneLines one-lines (orderVerdict k) (place-front k) (5 + m + k) ORDER (orderFits k) (4 + m + k) t (p .2) (q .2) in
     subst (OrderRead n k lanes moves t) (e .1) (order-parts n k (p .0) lanes moves t (q .0) (q .1) s (e .0))
 
 -- ---- from CARRIERS on
 
 record CarriersRead (n : ℕ) (lanes t : List ℕ) (j : Numbers) : Type 0 where
-  nodes : n ≡ j .nodes
-  lanes-same : lanes ≡ j .lanes
+  nodes : n ≡ j .network .nodes
+  lanes-same : lanes ≡ j .network .lanes
   spells : t ≡ carriersText j
   paired : length (j .moves) ≡ 2 * carriers j
   few : carriers j ≤ 64
-  moves-fine : (i : ℕ) → i < carriers j → moveVerdict (j .nodes) (j .moves) i ≡ Fine
+  moves-fine : (i : ℕ) → i < carriers j → moveVerdict (j .network .nodes) (j .moves) i ≡ Fine
   order-counted : length (j .order) ≡ carriers j
   order-fine : (p : ℕ) → p < carriers j → orderVerdict (carriers j) (j .order) p ≡ Fine
 
@@ -115,8 +118,8 @@ whole-parts : (n m : ℕ) (t rest lanes rest′ : List ℕ) {j : Numbers} → (1
     → SectionRead 2 lanesFit (laneVerdict n) pairLines LANES m m rest lanes rest′ → CarriersRead n lanes rest′ j → AcceptedText t j
 unfolding written
 whole-parts n m t rest lanes rest′ {j} fit e s c =
-    let size : length (j .lanes) ≡ 2 * m = rw (← c .lanes-same) (s .sized) in
-    let all : m ≡ laneCount (j .lanes) = omega arith in
+    let size : length (j .network .lanes) ≡ 2 * m = rw (← c .lanes-same) (s .sized) in
+    let all : m ≡ laneCount (j .network .lanes) = omega arith in
     record {
       spells = e ∙ (λ i. countLine NODES (c .nodes i) ++ (s .spells ∙ (λ i. countLine LANES (all i) ++ (pairLines (c .lanes-same i) ++ c .spells i))) i);
       fine = record {

@@ -1,6 +1,7 @@
--- Each part of a line looks at a bounded number of bytes, and no more: where two texts agree on so many bytes and on n more, it reads the same off both, and what
--- is left of them agrees on n. A number looks at four bytes at most, a line of one number at five, one of two numbers at ten, and a line of a word and a
--- count at six besides the word's letters. Assumes nothing.
+-- Each part of a line looks at a bounded number of bytes, and no more: where two texts agree on so many bytes
+-- and on n more, it reads the same off both, and what is left of them agrees on n. A number looks at four
+-- bytes at most, a line of one number at five, one of two numbers at ten, and a line of a word and a count at
+-- six besides the word's letters. Assumes nothing.
 --     Agree         two texts agree on their first n bytes
 --     SameTaken     the same was read off two texts, and the rests agree on n bytes
 use mathlib.Core.Path.{_≡_, sym, _∙_, ap}

@@ -1,9 +1,12 @@
--- What the definitions give for texts that page 01 speaks of, computed, as one statement over a table: the printed job is read back; "`NODES 0` gives 2, `NODES 01` gives 1", "1,025
--- give 2", "lane `1 0` gives 3"; a missing line, a missing last line feed and bytes after the last line are faults of form at the line where they show. Assumes nothing.
+-- What the definitions give for some texts, computed, as one statement over a table. The job of rule 7.14 is
+-- read back. By rule 11.12 no nodes and 1,025 nodes give 2, a count with a leading zero gives 1, and the lane
+-- `1 0` gives 3. A missing line, a missing last line feed and bytes behind the last line are 1 at the line
+-- where they show (rules 7.2, 7.11 and 7.12). Assumes nothing.
 use mathlib.Core.Path.{_≡_, refl}
 use mathlib.Core.List.{List, [], _∷_, _++_}
 use Prim.Native.Nat.{ℕ}
-use Rattle.hall.specs.Job.{Numbers}
+use Rattle.hall.specs.Floor.{networkOf}
+use Rattle.hall.specs.Job.{Numbers, jobOf}
 use Rattle.hall.specs.declared.Fault.the-variants.{Malformed, BadCount, BadLane}
 use Rattle.text.specs.Bytes.{kindOf}
 use Rattle.text.specs.Lines.{takeOf, takeDigit, takeSpace, takeLineFeed, moreDigits, takeNumber, takeWord, takeOne, takePair, takeEntry, takeCount, NODES, LANES, CARRIERS, ORDER}
@@ -24,7 +27,10 @@ Hold (c ∷ cases) = (reading (c .text) ≡ c .gives) × Hold cases
 
 -- five nodes in a line, moves 0 to 4, 4 to 0 and 2 to 1, order 0, 1, 2
 abbrev pub printed : Numbers
-printed = record { nodes = 5; lanes = 0 ∷ 1 ∷ 1 ∷ 2 ∷ 2 ∷ 3 ∷ 3 ∷ 4 ∷ []; moves = 0 ∷ 4 ∷ 4 ∷ 0 ∷ 2 ∷ 1 ∷ []; order = 0 ∷ 1 ∷ 2 ∷ [] }
+printed =
+    jobOf (networkOf 5 (0 ∷ 1 ∷ 1 ∷ 2 ∷ 2 ∷ 3 ∷ 3 ∷ 4 ∷ []))
+    (0 ∷ 4 ∷ 4 ∷ 0 ∷ 2 ∷ 1 ∷ [])
+    (0 ∷ 1 ∷ 2 ∷ [])
 
 -- two nodes, one lane and no carrier, without the line `ORDER`
 abbrev pub unfinished : List ℕ

@@ -1,5 +1,6 @@
--- The laws of a job text: a line's tests are the checks from numbers, a text is accepted exactly if it is the written form of a job without faults 2 to 7 and
--- refused exactly as page 01 lists, a refusal's line is counted by the line feeds before it, and the first 42,001 bytes decide.
+-- The laws of a job text: a line's tests are the checks from numbers, a text is accepted exactly if it is the
+-- written form of a job without faults 2 to 7 and refused exactly by the rules 7.8 to 7.12, a refusal's line
+-- is counted by the line feeds before it, and the first 42,001 bytes decide.
 pub mod Tests
 pub mod LineVerdicts
 pub mod NumberForms

@@ -1,11 +1,12 @@
--- The lines of a text by its line feeds. Every written line has one line feed, its last byte, since no digit, space or letter is one; so lines that have their
--- form are counted by their line feeds, and the part of a text behind them begins with a line. Assumes nothing.
+-- The lines of a text by its line feeds. Every written line has one line feed, its last byte, since no digit,
+-- space or letter is one; so lines that have their form are counted by their line feeds, and the part of a
+-- text behind them begins with a line. Assumes nothing.
 --     lineFeeds      how many line feeds a text has
 --     Ended          the last byte of a text is a line feed
 --     WholeLines     a text is empty, or its last byte is a line feed
 --     EntryFeeds     lines of entries have one line feed an entry
---     Begins         of a text that begins with line `first`, line `line` begins where the part `rest` does: what stands before it has `line` − `first` line
---                    feeds, and is whole lines
+--     Begins         of a text that begins with line `first`, line `line` begins where the part `rest` does:
+--                    what stands before it has `line` − `first` line feeds, and is whole lines
 use mathlib.Core.Path.{_≡_, refl, sym, _∙_, ap}
 use mathlib.Core.Logic.{_⊎_, inl, inr, _≢_}
 use mathlib.Core.List.{List, [], _∷_, _++_, append-assoc}

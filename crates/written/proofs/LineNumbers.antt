@@ -1,11 +1,14 @@
--- "Lines count from 1" (page 01, "Job text"), by the line feeds of the text: the line that a refusal carries is one more than the line feeds before the faulty
--- line, and the line of carrier i is 4 + m + i, behind m lanes. The lines before the faulty one have their form, and so LineFeeds.antt counts them, section
--- after section. The faults of the lines are those of the numbers 1 to 7, and so reading gives no other. Assumes nothing.
---     FaultyLine         the line at the front of a part lacks its form or has a fault, for one of the lines that page 01 lists; or bytes are left over
+-- Lines are counted from 1 (rule 7.10), by the line feeds of the text: the line that a refusal carries is one
+-- more than the line feeds before the faulty line, and the line of carrier i is 4 + m + i, behind m lanes.
+-- The lines before the faulty one have their form, and so LineFeeds.antt counts them, section after section.
+-- The faults of the lines are those of the numbers 1 to 7, and so reading gives no other. Assumes nothing.
+--     FaultyLine         the line at the front of a part lacks its form or has a fault, for one of the lines
+--                        of rule 7.10; or bytes are left over
 --     RefusedAt          a faulty line begins at line `line`
---     refused-line       a refusal's line is where a faulty line begins: the text before it has `line` − 1 line feeds
+--     refused-line       a refusal's line is where a faulty line begins: the text before it has `line` − 1
+--                        line feeds
 --     carrier-line       line 4 + m + i of a job's written form is that of carrier i
---     reading-faults     "Reading a text gives 1 to 7 or 9"; 9 is given before the text is read
+--     reading-faults     a text gives no other refusals than 1 to 7 (rule 8.21); 9 is given before it is read
 use mathlib.Core.Path.{_≡_, refl, sym, _∙_, ap}
 use mathlib.Core.Logic.{_⊎_, inl, inr, _≢_}
 use mathlib.Core.List.{List, [], _∷_, _++_, append-assoc}
@@ -15,10 +18,9 @@ use lib.ListN.{length}
 use Rattle.hall.specs.declared.Fault.{Fault}
 use Rattle.hall.specs.declared.Fault.the-variants.{Malformed}
 use Rattle.hall.specs.Floor.{laneCount}
-use Rattle.hall.specs.Job.{Numbers, carriers, start, goal}
-use Rattle.hall.specs.Refusals.{numberOf}
+use Rattle.hall.specs.Job.{Numbers, startIn, goalIn, carriers, start, goal}
+use Rattle.hall.specs.Numbers.{numberOf}
 use Rattle.text.specs.Lines.{NODES, LANES, CARRIERS, ORDER}
-use Rattle.text.specs.Checks.{startOf, goalOf}
 use Rattle.text.specs.Reading.{refusal, reading}
 use Rattle.text.specs.Written.{digits, pairLine, countLine, pairLines, oneLines, written}
 use Rattle.written.specs.LineFaults.{LaneFaults, MoveFaults, OrderFaults}
@@ -81,27 +83,27 @@ module _ (f : Fault) (line : ℕ) where
 
 -- ---- the line of a carrier
 
-next-start : (a b : ℕ) (l : List ℕ) (i : ℕ) → startOf (a ∷ b ∷ l) (suc i) ≡ startOf l i
+next-start : (a b : ℕ) (l : List ℕ) (i : ℕ) → startIn (a ∷ b ∷ l) (suc i) ≡ startIn l i
 next-start a b l i = let e : 2 * suc i ≡ suc (suc (2 * i)) = omega arith in rw e
 
-next-goal : (a b : ℕ) (l : List ℕ) (i : ℕ) → goalOf (a ∷ b ∷ l) (suc i) ≡ goalOf l i
+next-goal : (a b : ℕ) (l : List ℕ) (i : ℕ) → goalIn (a ∷ b ∷ l) (suc i) ≡ goalIn l i
 next-goal a b l i = let e : 2 * suc i + 1 ≡ suc (suc (2 * i + 1)) = omega arith in rw e
 
 module _ (a b : ℕ) (l : List ℕ) where
-  pair-first : (first : ℕ) → Begins (pairLines (a ∷ b ∷ l)) first (first + 0) (pairLine (startOf (a ∷ b ∷ l) 0) (goalOf (a ∷ b ∷ l) 0) ++ pairLines l)
+  pair-first : (first : ℕ) → Begins (pairLines (a ∷ b ∷ l)) first (first + 0) (pairLine (startIn (a ∷ b ∷ l) 0) (goalIn (a ∷ b ∷ l) 0) ++ pairLines l)
   unfolding pairLines
   pair-first first = at-once (pairLine a b ++ pairLines l) first (first + 0) (omega arith)
 
-  pair-next : (i first : ℕ) (rest : List ℕ) → Begins (pairLines l) (first + 1) (first + 1 + i) (pairLine (startOf l i) (goalOf l i) ++ rest)
-      → Begins (pairLines (a ∷ b ∷ l)) first (first + suc i) (pairLine (startOf (a ∷ b ∷ l) (suc i)) (goalOf (a ∷ b ∷ l) (suc i)) ++ rest)
+  pair-next : (i first : ℕ) (rest : List ℕ) → Begins (pairLines l) (first + 1) (first + 1 + i) (pairLine (startIn l i) (goalIn l i) ++ rest)
+      → Begins (pairLines (a ∷ b ∷ l)) first (first + suc i) (pairLine (startIn (a ∷ b ∷ l) (suc i)) (goalIn (a ∷ b ∷ l) (suc i)) ++ rest)
   unfolding pairLines
   pair-next i first rest x =
       let e : lineFeeds (pairLine a b) + first ≡ first + 1 = omega (arith, spaced-feeds (digits a) b (digits-feeds a)) in
       let line : first + suc i ≡ first + 1 + i = omega arith in
       rw (line, next-start a b l i, next-goal a b l i)
-      (further (pairLine a b) (pairLines l) (pairLine (startOf l i) (goalOf l i) ++ rest) first (first + 1 + i) (inr (spaced-ended (digits a) b)) (rw e x))
+      (further (pairLine a b) (pairLines l) (pairLine (startIn l i) (goalIn l i) ++ rest) first (first + 1 + i) (inr (spaced-ended (digits a) b)) (rw e x))
 
-pair-at : (l : List ℕ) (i first : ℕ) → 2 * i + 1 < length l → (rest : List ℕ) × Begins (pairLines l) first (first + i) (pairLine (startOf l i) (goalOf l i) ++ rest)
+pair-at : (l : List ℕ) (i first : ℕ) → 2 * i + 1 < length l → (rest : List ℕ) × Begins (pairLines l) first (first + i) (pairLine (startIn l i) (goalIn l i) ++ rest)
 pair-at [] i first h = absurd (let x : ⊥ = omega arith in x)
 pair-at (a ∷ []) i first h = absurd (let x : ⊥ = omega arith in x)
 pair-at (a ∷ b ∷ l) zero first h = (pairLines l, pair-first a b l first)
@@ -119,10 +121,10 @@ with-tail t rest tail first line b =
 lanes-feeds : (lanes : List ℕ) → lineFeeds (pairLines lanes) ≡ laneCount lanes
 lanes-feeds lanes = let w = pair-within lanes in omega (arith, w .0, w .1)
 
-pub carrier-line : (j : Numbers) (i : ℕ) → i < carriers j → (rest : List ℕ) × Begins (written j) 1 (4 + laneCount (j .lanes) + i) (pairLine (start j i) (goal j i) ++ rest)
+pub carrier-line : (j : Numbers) (i : ℕ) → i < carriers j → (rest : List ℕ) × Begins (written j) 1 (4 + laneCount (j .network .lanes) + i) (pairLine (start j i) (goal j i) ++ rest)
 unfolding written
 carrier-line j i h =
-    let m = laneCount (j .lanes) in
+    let m = laneCount (j .network .lanes) in
     let line = 4 + m + i in
     let own = pairLine (start j i) (goal j i) in
     let tail = countLine ORDER (length (j .order)) ++ oneLines (j .order) in
@@ -132,10 +134,10 @@ carrier-line j i h =
     let moves : Begins (pairLines (j .moves) ++ tail) (3 + m + 1) line (own ++ r) =
     rw (← append-assoc own (x .0) tail, ← same) (with-tail (pairLines (j .moves)) (own ++ x .0) tail (3 + m + 1) (3 + m + 1 + i) (x .1)) in
     let carriers-on = below-count _ (own ++ r) CARRIERS (words-feeds .2) (carriers j) (3 + m) line (pairLines (j .moves) ++ tail) refl moves in
-    let third : lineFeeds (pairLines (j .lanes)) + 3 ≡ 3 + m = omega (arith, lanes-feeds (j .lanes)) in
-    let lanes-on = further (pairLines (j .lanes)) (countLine CARRIERS (carriers j) ++ (pairLines (j .moves) ++ tail)) (own ++ r) 3 line (pair-whole (j .lanes)) (rw third carriers-on) in
+    let third : lineFeeds (pairLines (j .network .lanes)) + 3 ≡ 3 + m = omega (arith, lanes-feeds (j .network .lanes)) in
+    let lanes-on = further (pairLines (j .network .lanes)) (countLine CARRIERS (carriers j) ++ (pairLines (j .moves) ++ tail)) (own ++ r) 3 line (pair-whole (j .network .lanes)) (rw third carriers-on) in
     let lanes-count = below-count _ (own ++ r) LANES (words-feeds .1) m 2 line _ refl lanes-on in
-    (r, below-count _ (own ++ r) NODES (words-feeds .0) (j .nodes) 1 line _ refl lanes-count)
+    (r, below-count _ (own ++ r) NODES (words-feeds .0) (j .network .nodes) 1 line _ refl lanes-count)
 
 -- ---- the numbers that reading gives
 

@@ -1,6 +1,8 @@
--- The lines of a text and their written forms: a line that was read is the written form of what it says, with the rest behind it, and the written form is read
--- as what it says. Each part of a line ends where the next begins: behind a number stands a space or a line feed, which is no digit. Assumes nothing.
---     EntryLines     lines of entries: a line is read as an entry of so many numbers, and the written lines of entries begin with the first one's
+-- The lines of a text and their written forms: a line that was read is the written form of what it says, with
+-- the rest behind it, and the written form is read as what it says. Each part of a line ends where the next
+-- begins: behind a number stands a space or a line feed, which is no digit. Assumes nothing.
+--     EntryLines     lines of entries: a line is read as an entry of so many numbers, and the written lines
+--                    of entries begin with the first one's
 use mathlib.Core.Path.{_≡_, refl, sym, _∙_, ap, subst}
 use mathlib.Core.List.{List, [], _∷_, _++_, append-assoc}
 use mathlib.Core.Bool.{Bool, true, false}

@@ -1,5 +1,6 @@
--- The verdict of a line says which of its faults is given: it tries the tests in number order, so the first that passes has the lowest number, and where none
--- passes no fault holds. Tests.antt has what each test tells. Assumes nothing.
+-- The verdict of a line says which of its faults is given: it tries the tests in number order, so the first
+-- that passes has the lowest number, and where none passes no fault holds. Tests.antt has what each test
+-- tells. Assumes nothing.
 use mathlib.Core.Path.{_≡_, refl, ap}
 use mathlib.Core.Logic.{_⊎_, inl, inr}
 use mathlib.Core.List.{List}
@@ -8,11 +9,14 @@ use Prim.Native.Nat.{ℕ, _≤_}
 use native.Mathlib.Omega.{arith}
 use Rattle.hall.specs.declared.Fault.{Fault}
 use Rattle.hall.specs.declared.Fault.the-variants.{BadLane, OffFloor, SameEnds, SharedEnd, BadOrder}
-use Rattle.hall.specs.Refusals.{numberOf, OffFloor-at, SharedEnd-at}
+use Rattle.hall.specs.Numbers.{numberOf}
+use Rattle.hall.specs.Floor.{nodesOnly}
+use Rattle.hall.specs.Job.{startIn, goalIn}
+use Rattle.hall.specs.Refusals.{OffFloor-at, SharedEnd-at}
 use Rattle.text.specs.declared.checks.Verdict.{Verdict}
 use Rattle.text.specs.declared.checks.Verdict.the-variants.{Fine, Faulty}
 use Rattle.text.specs.Bytes.{pick}
-use Rattle.text.specs.Checks.{startOf, goalOf, laneFaulty, laneVerdict, offFloor, sameEnds, sharedEnd, moveVerdict, badOrder, orderVerdict}
+use Rattle.text.specs.Checks.{laneFaulty, laneVerdict, offFloor, sameEnds, sharedEnd, moveVerdict, badOrder, orderVerdict}
 use Rattle.written.specs.LineFaults.{LaneFaults, MoveFaults, OrderFaults, Says}
 use Rattle.written.proofs.Tests.{Tells, lane-test, off-floor-test, same-ends-test, shared-end-test, bad-order-test}
 
@@ -78,5 +82,5 @@ module _ (A B C : Type 0) where
 pub move-says : (nodes : ℕ) (moves : List ℕ) (i : ℕ) → Says (MoveFaults nodes moves i) (moveVerdict nodes moves i)
 unfolding moveVerdict
 move-says nodes moves i =
-    three-say (OffFloor-at nodes (startOf moves i) (goalOf moves i)) (startOf moves i ≡ goalOf moves i) (SharedEnd-at moves i)
+    three-say (OffFloor-at (nodesOnly nodes) (startIn moves i) (goalIn moves i)) (startIn moves i ≡ goalIn moves i) (SharedEnd-at moves i)
     (offFloor nodes moves i) (sameEnds moves i) (sharedEnd moves i) (off-floor-test moves i nodes) (same-ends-test moves i) (shared-end-test moves i)

@@ -1,8 +1,10 @@
--- A long input: reading the first 42,001 bytes of a text gives the same answer and tables as reading the whole. No line is looked at past its longest form
--- (Agreement.antt), and no more lines are tried than the counts that fit allow: 11 bytes of NODES, 11 of LANES, 4,096 lanes of 10, 14 of CARRIERS, 64 moves of
--- 10, 11 of ORDER, 64 entries of 5, and one byte to see that the text ends. So reading looks at 41,968 bytes at most, and two texts that agree on these have one
--- reading. Assumes nothing.
---     SameSection       the same was read off two texts, or the same refusal was given, and the rests agree on n bytes
+-- A long input (rule 7.7): reading the first 42,001 bytes of a text gives the same answer and tables as
+-- reading the whole. No line is looked at past its longest form (Agreement.antt), and no more lines are tried
+-- than the counts that fit allow: 11 bytes of NODES, 11 of LANES, 4,096 lanes of 10, 14 of CARRIERS, 64 moves
+-- of 10, 11 of ORDER, 64 entries of 5, and one byte to see that the text ends. So reading looks at 41,968
+-- bytes at most, and two texts that agree on these have one reading. Assumes nothing.
+--     SameSection       the same was read off two texts, or the same refusal was given, and the rests agree
+--                       on n bytes
 --     reading-same      texts that agree on 41,968 bytes have one reading
 --     long-input        reading the first 42,001 bytes is reading the whole
 --     long-outcome      so are its answer and what it leaves in the tables

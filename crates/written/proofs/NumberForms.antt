@@ -1,5 +1,6 @@
--- A number below 10,000 has one written form, and reading takes that form back: the digits that `digits` writes are those that `takeNumber` takes, one to four of
--- them by the number's size, the first no zero but in 0 itself. What is read was written, and what is written is read where no digit follows. Assumes nothing.
+-- A number below 10,000 has one written form, and reading takes that form back: the digits that `digits`
+-- writes are those that `takeNumber` takes, one to four of them by the number's size, the first no zero but
+-- in 0 itself. What is read was written, and what is written is read where no digit follows. Assumes nothing.
 --     Spelt         a text begins with the written form of a number below 10,000
 --     Digitwise     a number below 10,000 by its digits
 use mathlib.Core.Path.{_≡_, refl, sym, _∙_}
@@ -138,7 +139,8 @@ pub record Spelt (t : List ℕ) (n : ℕ) (rest : List ℕ) : Type 0 where
   pub spells : t ≡ digits n ++ rest
   pub small : n < 10000
 
--- after the first digit, which is no zero, up to three more are tried in turn; each of these takes what the text shows there
+-- after the first digit, which is no zero, up to three more are tried in turn; each of these takes what the
+-- text shows there
 module _ {n : ℕ} {rest : List ℕ} (d : ℕ) (first : 1 ≤ d) (d-small : d < 10) where
   fourth-digit : (a b : ℕ) → a < 10 → b < 10 → (t : List ℕ) (x : Taken ℕ) → takeDigit t ≡ x
       → whether x (got ((d * 10 + a) * 10 + b) t) (λ c r. got (((d * 10 + a) * 10 + b) * 10 + c) r) ≡ got n rest

@@ -1,6 +1,7 @@
--- Lines of entries are refused exactly where Refused.antt says: some first lines are fine, and the next is refused. By induction over how many lines are left: the
--- first line is refused, or it is read and one behind it is. The other way round the fine lines are read (SectionTexts.antt), and then the refused one is
--- met. Assumes nothing.
+-- Lines of entries are refused exactly where Refused.antt says: some first lines are fine, and the next is
+-- refused. By induction over how many lines are left: the first line is refused, or it is read and one behind
+-- it is. The other way round the fine lines are read (SectionTexts.antt), and then the refused one is met.
+-- Assumes nothing.
 --     RefusedAfter     of lines of entries behind others, the first i are fine, and the next is refused
 use mathlib.Core.Path.{_≡_, refl, sym, _∙_, ap, subst₂}
 use mathlib.Core.List.{List, [], _++_, append-assoc, append-nil}

@@ -1,7 +1,9 @@
--- A text is refused with a fault and a line exactly where Refused.antt says, and each text is either accepted or refused, in one way. The sections are gone through
--- from the last to the first, each by the law of RefusedSections.antt; behind the last one bytes are left. That there is one answer for each text follows, since
--- a text has one reading. Assumes nothing.
---     refused-exactly     a text is refused with a fault at a line exactly if that line is the first faulty one and has that fault
+-- A text is refused with a fault and a line exactly where Refused.antt says, and each text is either accepted
+-- or refused, in one way. The sections are gone through from the last to the first, each by the law of
+-- RefusedSections.antt; behind the last one bytes are left. That there is one answer for each text follows,
+-- since a text has one reading. Assumes nothing.
+--     refused-exactly     a text is refused with a fault at a line exactly if that line is the first faulty
+--                         one and has that fault
 --     refusal-unique      there is one fault and one line
 --     one-or-other        a text is the written form of a job without a fault, or it is refused
 --     not-both            it is never both
@@ -10,7 +12,8 @@ use mathlib.Core.Logic.{_⊎_, inl, inr, _↔_, _≢_}
 use mathlib.Core.List.{List, [], _∷_, cons≢nil}
 use Prim.Native.Nat.{ℕ, _+_, _≤_}
 use native.Mathlib.Omega.{arith}
-use Rattle.hall.specs.Job.{Numbers}
+use Rattle.hall.specs.Floor.{networkOf}
+use Rattle.hall.specs.Job.{Numbers, jobOf}
 use Rattle.hall.specs.declared.Fault.{Fault}
 use Rattle.hall.specs.declared.Fault.the-variants.{Malformed}
 use Rattle.text.specs.Lines.{takePair, takeEntry, NODES, LANES, CARRIERS, ORDER}
@@ -54,7 +57,7 @@ module _ (f : Fault) (l : ℕ) where
       (λ c order rest e. (end-refused (whole order) (5 + m + k + k) rest, end-refused-back (whole order) (5 + m + k + k) rest)) t
     where
       whole : List ℕ → Numbers
-      whole order = record { nodes = n; lanes = lanes; moves = moves; order = order }
+      whole order = jobOf (networkOf n lanes) moves order
 
   carriers-refused : (n m : ℕ) (lanes t : List ℕ) → (fromCarriers n m lanes t ≡ refusal f l) ↔ RefusedFromCarriers n m t f l
   unfolding fromCarriers

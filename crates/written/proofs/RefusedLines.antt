@@ -1,5 +1,6 @@
--- A line of a count and a line of an entry are refused exactly where Refused.antt says. Where the form is not read, no written form stands there, since it would be
--- read (LineTexts.antt). Only one verdict says which fault comes first. Assumes nothing.
+-- A line of a count and a line of an entry are refused exactly where Refused.antt says. Where the form is not
+-- read, no written form stands there, since it would be read (LineTexts.antt). Only one verdict says which
+-- fault comes first. Assumes nothing.
 use mathlib.Core.Path.{_≡_, refl, sym, _∙_, ap, subst}
 use mathlib.Core.List.{List, [], _++_, append-nil}
 use mathlib.Core.Bool.{Bool, true, false}
@@ -8,7 +9,7 @@ use native.Mathlib.Omega.{arith}
 use lib.ListN.{length}
 use Rattle.hall.specs.declared.Fault.{Fault}
 use Rattle.hall.specs.declared.Fault.the-variants.{BadCount}
-use Rattle.hall.proofs.Refusals.{number-one-fault}
+use Rattle.hall.proofs.Numbers.{number-one-fault}
 use Rattle.text.specs.declared.checks.Verdict.{Verdict}
 use Rattle.text.specs.declared.checks.Verdict.the-variants.{Fine, Faulty}
 use Rattle.text.specs.Bytes.{pick}

@@ -1,6 +1,7 @@
--- A section of a text is refused exactly where Refused.antt says: at the line of its count, at one of its entries, or behind it. The parts are read one after the
--- other, so that the first refusal is the whole's; what was read before it is written there and fine. `left` is how many entries are tried: the count, where it
--- fits. Assumes nothing.
+-- A section of a text is refused exactly where Refused.antt says: at the line of its count, at one of its
+-- entries, or behind it. The parts are read one after the other, so that the first refusal is the whole's;
+-- what was read before it is written there and fine. `left` is how many entries are tried: the count, where
+-- it fits. Assumes nothing.
 use mathlib.Core.Path.{_≡_, refl, sym, subst₂}
 use mathlib.Core.Logic.{_⊎_, inl, inr, _↔_}
 use mathlib.Core.List.{List, [], _++_}

@@ -1,5 +1,6 @@
--- The sections of a text and their written forms: what a section was read from is the written form of what it hands on, with the rest behind it, and that form
--- is read back where the checks find nothing. Entries go by induction over how many lines are left; that an entry is judged with the entries so far only does not
+-- The sections of a text and their written forms: what a section was read from is the written form of what it
+-- hands on, with the rest behind it, and that form is read back where the checks find nothing. Entries go by
+-- induction over how many lines are left; that an entry is judged with the entries so far only does not
 -- matter, since a check looks at no entry behind its own (Fronts.antt). Assumes nothing.
 --     EntriesRead     what lines of entries that were read say, where entries stand before them
 --     SectionRead     what a section that was read says, its count and its entries

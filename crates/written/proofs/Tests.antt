@@ -1,5 +1,6 @@
--- The tests of a line are the definitions of the crate `hall`. A test tells a fact if it passes only where the fact holds and fails only where it does not; of
--- two facts one or the other is told by `either`, and that one below n holds by `someBelow`. So each test is put together as its fact is. Assumes nothing.
+-- The tests of a line are the definitions of the crate `hall`. A test tells a fact if it passes only where
+-- the fact holds and fails only where it does not; of two facts one or the other is told by `either`, and
+-- that one below n holds by `someBelow`. So each test is put together as its fact is. Assumes nothing.
 --     Tells         a test tells a fact
 --     SomeBelow     some number below n has a property
 --     Sinks         lane k does not exceed the one before
@@ -14,10 +15,13 @@ use native.Mathlib.Omega.{arith}
 use borrow.Author.Tests.{ltb-true, ltb-false, leb-true, leb-false, eqb-true, eqb-false}
 use lib.Dec.{leb, ltb, eqb}
 use lib.ListN.{getD}
-use Rattle.hall.specs.Floor.{lower, higher}
-use Rattle.hall.specs.Refusals.{Exceeds, by-lower, by-higher, LaneFault, no-node, not-below, not-rising, OffFloor-at, SharedEnd-at, BadOrder-at, no-carrier, stands-earlier}
+use Rattle.hall.specs.Limits.{nodeLimit, laneLimit, carrierLimit}
+use Rattle.hall.specs.Floor.{lower, higher, networkOf, nodesOnly}
+use Rattle.hall.specs.Job.{startIn, goalIn}
+use Rattle.hall.specs.Refusals.{Exceeds, by-lower, by-higher, LaneFault, no-node, not-below, not-rising}
+use Rattle.hall.specs.Refusals.{OffFloor-at, SharedEnd-at, BadOrder-at, no-carrier, stands-earlier}
 use Rattle.text.specs.Bytes.{pick, both, either}
-use Rattle.text.specs.Checks.{nodesFit, lanesFit, carriersFit, orderFits, notRising, laneFaulty, startOf, goalOf, offFloor, sameEnds, someBelow, sharesEnd, sharedEnd, sameEntry, badOrder}
+use Rattle.text.specs.Checks.{nodesFit, lanesFit, carriersFit, orderFits, notRising, laneFaulty, offFloor, sameEnds, someBelow, sharesEnd, sharedEnd, sameEntry, badOrder}
 use Rattle.text.proofs.Takes.{false-true}
 
 pub record Tells (test : Bool) (A : Type 0) : Type 0 where
@@ -121,19 +125,19 @@ module _ (lanes : List ℕ) where
       back s = let e : s .before ≡ j = omega (arith, s .next) in subst (λ (b : ℕ). ¬ Exceeds lanes (suc j) b) e (s .not-above)
 
   module _ (nodes k : ℕ) where
-    lane-fault : (nodes ≤ lower lanes k) ⊎ ((nodes ≤ higher lanes k) ⊎ ((higher lanes k ≤ lower lanes k) ⊎ Sinks k)) → LaneFault nodes lanes k
+    lane-fault : (nodes ≤ lower lanes k) ⊎ ((nodes ≤ higher lanes k) ⊎ ((higher lanes k ≤ lower lanes k) ⊎ Sinks k)) → LaneFault (networkOf nodes lanes) k
     lane-fault (inl h) = no-node (inl h)
     lane-fault (inr (inl h)) = no-node (inr h)
     lane-fault (inr (inr (inl h))) = not-below h
     lane-fault (inr (inr (inr s))) = not-rising (s .next) (s .not-above)
 
-    lane-parts : LaneFault nodes lanes k → (nodes ≤ lower lanes k) ⊎ ((nodes ≤ higher lanes k) ⊎ ((higher lanes k ≤ lower lanes k) ⊎ Sinks k))
+    lane-parts : LaneFault (networkOf nodes lanes) k → (nodes ≤ lower lanes k) ⊎ ((nodes ≤ higher lanes k) ⊎ ((higher lanes k ≤ lower lanes k) ⊎ Sinks k))
     lane-parts (no-node (inl h)) = inl h
     lane-parts (no-node (inr h)) = inr (inl h)
     lane-parts (not-below h) = inr (inr (inl h))
     lane-parts (not-rising {j = j} e n) = inr (inr (inr (record { before = j; next = e; not-above = n })))
 
-    pub lane-test : Tells (laneFaulty nodes lanes k) (LaneFault nodes lanes k)
+    pub lane-test : Tells (laneFaulty nodes lanes k) (LaneFault (networkOf nodes lanes) k)
     unfolding laneFaulty
     lane-test =
         tells-same lane-fault lane-parts
@@ -145,16 +149,16 @@ module _ (lanes : List ℕ) where
 -- ---- 4 to 6
 
 module _ (moves : List ℕ) (i : ℕ) where
-  pub off-floor-test : (nodes : ℕ) → Tells (offFloor nodes moves i) (OffFloor-at nodes (startOf moves i) (goalOf moves i))
+  pub off-floor-test : (nodes : ℕ) → Tells (offFloor nodes moves i) (OffFloor-at (nodesOnly nodes) (startIn moves i) (goalIn moves i))
   unfolding offFloor
-  off-floor-test nodes = tells-either (tells-le nodes (startOf moves i)) (tells-le nodes (goalOf moves i))
+  off-floor-test nodes = tells-either (tells-le nodes (startIn moves i)) (tells-le nodes (goalIn moves i))
 
-  pub same-ends-test : Tells (sameEnds moves i) (startOf moves i ≡ goalOf moves i)
+  pub same-ends-test : Tells (sameEnds moves i) (startIn moves i ≡ goalIn moves i)
   unfolding sameEnds
-  same-ends-test = tells-eq (startOf moves i) (goalOf moves i)
+  same-ends-test = tells-eq (startIn moves i) (goalIn moves i)
 
   abbrev Shares : ℕ → Type 0
-  Shares e = (startOf moves e ≡ startOf moves i) ⊎ (goalOf moves e ≡ goalOf moves i)
+  Shares e = (startIn moves e ≡ startIn moves i) ⊎ (goalIn moves e ≡ goalIn moves i)
 
   pub shared-end-test : Tells (sharedEnd moves i) (SharedEnd-at moves i)
   unfolding sharedEnd
@@ -162,7 +166,7 @@ module _ (moves : List ℕ) (i : ℕ) where
       tells-same
       (λ (s : SomeBelow Shares i). record { earlier = s .which; before = s .below; shares = s .is })
       (λ s. record { which = s .earlier; below = s .before; is = s .shares })
-      (tells-some (sharesEnd moves i) (λ e. tells-either (tells-eq (startOf moves e) (startOf moves i)) (tells-eq (goalOf moves e) (goalOf moves i))) i)
+      (tells-some (sharesEnd moves i) (λ e. tells-either (tells-eq (startIn moves e) (startIn moves i)) (tells-eq (goalIn moves e) (goalIn moves i))) i)
 
 -- ---- 7
 
@@ -186,7 +190,7 @@ module _ (order : List ℕ) (p carriers : ℕ) where
 
 -- ---- 2: a count fits
 
-pub nodes-test : (n : ℕ) → Tells (nodesFit n) ((1 ≤ n) × (n ≤ 1024))
+pub nodes-test : (n : ℕ) → Tells (nodesFit n) ((1 ≤ n) × (n ≤ nodeLimit))
 unfolding nodesFit
 nodes-test n = both-of (leb 1 n) (leb n 1024) (tells-le 1 n) (tells-le n 1024)
   where
@@ -194,11 +198,11 @@ nodes-test n = both-of (leb 1 n) (leb n 1024) (tells-le 1 n) (tells-le n 1024)
     both-of true y s t = record { passes = λ e. (s .passes refl, t .passes e); fails = λ e h. t .fails e (h .1) }
     both-of false y s t = record { passes = false-true; fails = λ e h. s .fails refl (h .0) }
 
-pub lanes-test : (m : ℕ) → Tells (lanesFit m) (m ≤ 4096)
+pub lanes-test : (m : ℕ) → Tells (lanesFit m) (m ≤ laneLimit)
 unfolding lanesFit
 lanes-test m = tells-le m 4096
 
-pub carriers-test : (k : ℕ) → Tells (carriersFit k) (k ≤ 64)
+pub carriers-test : (k : ℕ) → Tells (carriersFit k) (k ≤ carrierLimit)
 unfolding carriersFit
 carriers-test k = tells-le k 64
 

@@ -1,9 +1,13 @@
--- A text is accepted exactly if it is the written form of a job without faults 2 to 7, and that job is unique. AcceptedTexts.antt has that an accepted text is
--- written, WrittenTexts.antt that a written one is accepted; the job is unique since a text has one reading. A line of two numbers has at most 10 bytes and one of
--- a single number at most 5, so that with the limits of the counts an accepted text stays within 42,000 bytes. Assumes nothing.
---     accepted-exactly     a text is accepted as a job exactly if it is that job's written form and the job has no fault
+-- A text is accepted exactly if it is the written form of a job without faults 2 to 7, and that job is
+-- unique. AcceptedTexts.antt has that an accepted text is written, WrittenTexts.antt that a written one is
+-- accepted; the job is unique since a text has one reading. A line of two numbers has at most 10 bytes and
+-- one of a single number at most 5, so that with the limits of the counts an accepted text stays within
+-- 42,000 bytes. Assumes nothing.
+--     accepted-exactly     a text is accepted as a job exactly if it is that job's written form and the job
+--                          has no fault
 --     job-unique           a text is the written form of one such job at most
---     accepted-length      "With every line at its longest, an accepted text stays within 42,000 bytes"
+--     accepted-length      an accepted text has at most 42,000 bytes, with every line at its longest (rule
+--                          7.6)
 use mathlib.Core.Path.{_≡_, refl}
 use mathlib.Core.Logic.{_↔_}
 use mathlib.Core.List.{List, [], _∷_, _++_}
@@ -85,14 +89,14 @@ count-within word n size e = omega (arith, count-line-length word n)
 written-length : (j : Numbers) → LinesFine j → length (written j) ≤ 42000
 unfolding written
 written-length j l =
-    let m = laneCount (j .lanes) in
+    let m = laneCount (j .network .lanes) in
     let k = carriers j in
     let w = words-length in
     let order : length (oneLines (j .order)) ≤ 320 = omega (arith, one-lines-length (j .order), l .order-counted, l .few-carriers) in
     let whole : length (written j) ≤ 11 + (11 + (40960 + (14 + (640 + (11 + 320))))) =
-    join-length (countLine NODES (j .nodes)) _ 11 _ (count-within NODES (j .nodes) 5 (w .0))
+    join-length (countLine NODES (j .network .nodes)) _ 11 _ (count-within NODES (j .network .nodes) 5 (w .0))
     (join-length (countLine LANES m) _ 11 _ (count-within LANES m 5 (w .1))
-    (join-length (pairLines (j .lanes)) _ 40960 _ (omega (arith, pair-lines-length (j .lanes), l .lanes-paired, l .few-lanes))
+    (join-length (pairLines (j .network .lanes)) _ 40960 _ (omega (arith, pair-lines-length (j .network .lanes), l .lanes-paired, l .few-lanes))
     (join-length (countLine CARRIERS k) _ 14 _ (count-within CARRIERS k 8 (w .2))
     (join-length (pairLines (j .moves)) _ 640 _ (omega (arith, pair-lines-length (j .moves), l .moves-paired, l .few-carriers))
     (join-length (countLine ORDER (length (j .order))) _ 11 320 (count-within ORDER (length (j .order)) 5 (w .3)) order))))) in

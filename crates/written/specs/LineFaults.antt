@@ -1,27 +1,30 @@
--- The faults of one line that has its form (page 01, "Refusal numbers", 3 to 7), each asked of the entries so far, and which one is given: "Within a line form
--- comes first, then the listed checks in number order."
+-- The faults of one line that has its form (rules 8.3 to 8.7), each asked of the entries so far, and which
+-- one is given: the one with the lowest number (rule 7.9).
 --     LaneFaults     3, at lane k
 --     MoveFaults     4, 5 and 6, at carrier i
 --     OrderFaults    7, at place p
---     Says           what a line's verdict says of its faults: none of them holds, or this one does and none with a lower number
+--     Says           what a line's verdict says of its faults: none of them holds, or this one does and none
+--                    with a lower number
 use mathlib.Core.Path.{_≡_}
 use mathlib.Core.Logic.{_⊎_}
 use mathlib.Core.List.{List}
 use Prim.Native.Nat.{ℕ, _≤_}
 use Rattle.hall.specs.declared.Fault.{Fault}
 use Rattle.hall.specs.declared.Fault.the-variants.{BadLane, OffFloor, SameEnds, SharedEnd, BadOrder}
-use Rattle.hall.specs.Refusals.{numberOf, LaneFault, OffFloor-at, SharedEnd-at, BadOrder-at}
+use Rattle.hall.specs.Numbers.{numberOf}
+use Rattle.hall.specs.Floor.{networkOf, nodesOnly}
+use Rattle.hall.specs.Job.{startIn, goalIn}
+use Rattle.hall.specs.Refusals.{LaneFault, OffFloor-at, SharedEnd-at, BadOrder-at}
 use Rattle.text.specs.declared.checks.Verdict.{Verdict}
 use Rattle.text.specs.declared.checks.Verdict.the-variants.{Fine, Faulty}
-use Rattle.text.specs.Checks.{startOf, goalOf}
 
 abbrev pub LaneFaults : (nodes : ℕ) (lanes : List ℕ) (k : ℕ) → Fault → Type 0
-LaneFaults nodes lanes k f = (f ≡ BadLane) × LaneFault nodes lanes k
+LaneFaults nodes lanes k f = (f ≡ BadLane) × LaneFault (networkOf nodes lanes) k
 
 abbrev pub MoveFaults : (nodes : ℕ) (moves : List ℕ) (i : ℕ) → Fault → Type 0
 MoveFaults nodes moves i f =
-    ((f ≡ OffFloor) × OffFloor-at nodes (startOf moves i) (goalOf moves i))
-    ⊎ (((f ≡ SameEnds) × (startOf moves i ≡ goalOf moves i))
+    ((f ≡ OffFloor) × OffFloor-at (nodesOnly nodes) (startIn moves i) (goalIn moves i))
+    ⊎ (((f ≡ SameEnds) × (startIn moves i ≡ goalIn moves i))
     ⊎ ((f ≡ SharedEnd) × SharedEnd-at moves i))
 
 abbrev pub OrderFaults : (carriers : ℕ) (order : List ℕ) (p : ℕ) → Fault → Type 0

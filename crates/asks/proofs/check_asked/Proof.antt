@@ -1,23 +1,38 @@
--- `asks::check_asked` meets its contract: the listed checks of the job decide first, then the walks of all its carriers, then the number named. Each
--- refusal is the first fault of the whole, since what comes before it is settled, and after the number there is no check. Assumes nothing.
+-- `asks::check_asked` meets its contract: the checks 2 to 7 of the job decide first, then the walks of all
+-- its carriers, then the number named. Each refusal is the first fault of the whole, since what comes before
+-- it is settled. That the checks are passed also gives what the search for 8 starts from. Assumes nothing.
+use mathlib.Core.List.{[], _∷_}
 use borrow.Author.Needs.{needs}
-use Rattle.hall.specs.Job.{Numbers}
-use Rattle.hall.specs.Refusals.{Checks, None}
-use Rattle.network.proofs.Sections.{soundness}
-use Rattle.asks.specs.Asked.{jobOf}
-use Rattle.asks.proofs.Asking.{job-refused, reach-refused, number-answers, walkable}
+use Rattle.hall.specs.Floor.{networkOf}
+use Rattle.hall.specs.Job.{Numbers, carriers, jobOf}
+use Rattle.hall.specs.Stages.{None}
+use Rattle.hall.specs.Said.{Judged}
+use Rattle.hall.specs.Questions.{eachWalk, lacking, checksQuestion, jobQuestion}
+use Rattle.hall.proofs.Compose.{judged-stop, judged-after, judged-then, sound-none}
+use Rattle.hall.proofs.Sound.{nodes-limit, ends-on}
 use Rattle.asks.proofs.check_asked.Statement.{statement}
 use Rattle.asks.proofs.check_asked.Tie as tie
 
 -- the job that is asked about
 abbrev job : tie.Start → Numbers
-job c = jobOf (c .args .nodes) (c .args .lanes .now) (c .args .moves .now) (c .args .order .now)
+job c = jobOf (networkOf (c .args .nodes) (c .args .lanes .now)) (c .args .moves .now) (c .args .order .now)
 
--- the job has passed the listed checks
-job-sound : (c : tie.After-enum-told2) → None (Checks (job (c .before .before .before .before .before .before .before)))
+-- the job has passed the checks 2 to 7
+job-sound : (c : tie.After-enum-told2) →
+    None (checksQuestion (job (c .before .before .before .before .before .before .before)))
 job-sound c =
     let checked = c .before .before .before in
-    soundness (Checks (job (checked .before .before .before .before))) (c .enum-told2 .given .1) (checked .check-job .ensures)
+    sound-none (checksQuestion (job (checked .before .before .before .before)))
+    (c .enum-told2 .given .1) (checked .check-job .ensures)
+
+-- and what is answered of its walks is answered of 2 to 8
+reach-judged : (c : tie.After-check-reach) →
+    Judged (jobQuestion (job (c .before .before .before .before .before .before .before .before)))
+    (c .check-reach .result)
+reach-judged c =
+    let j = job (c .before .before .before .before .before .before .before .before) in
+    judged-after (checksQuestion j) (eachWalk (j .network) (j .moves) ∷ []) (job-sound (c .before))
+    (c .check-reach .result) (c .check-reach .ensures)
 
 check-job-requires : tie.Need-check-job-requires
 check-job-requires c κs = search needs
@@ -32,13 +47,18 @@ returns : tie.Need-returns
 returns c =
     let checked = c .before .before .before in
     let start = checked .before .before .before .before in
-    job-refused (job start) (start .args .carrier .0) (c .enum-told .given .1) (checked .check-job .ensures)
+    let j = job start in
+    judged-stop (checksQuestion j)
+    (eachWalk (j .network) (j .moves) ∷ lacking (carriers j) (start .args .carrier .0) ∷ [])
+    (c .enum-told .given .1) (checked .check-job .ensures)
 
 enum-told-2 : tie.Need-enum-told-2
 enum-told-2 c = search needs
 
 check-reach-requires : tie.Need-check-reach-requires
-check-reach-requires c κs = walkable (job (c .before .before .before .before .before .before .before)) (job-sound c)
+check-reach-requires c κs =
+    let j = job (c .before .before .before .before .before .before .before) in
+    record { few = nodes-limit j (job-sound c); ends = ends-on j (job-sound c) }
 
 enum-told-3 : tie.Need-enum-told-3
 enum-told-3 c = search needs
@@ -48,7 +68,8 @@ returns-2 c =
     let reach = c .before .before in
     let sound = reach .before in
     let start = sound .before .before .before .before .before .before .before in
-    reach-refused (job start) (start .args .carrier .0) (job-sound sound) (c .enum-told3 .given .1) (reach .check-reach .ensures)
+    judged-stop (jobQuestion (job start)) (lacking (carriers (job start)) (start .args .carrier .0) ∷ [])
+    (c .enum-told3 .given .1) (reach-judged reach)
 
 enum-told-4 : tie.Need-enum-told-4
 enum-told-4 c = search needs
@@ -59,7 +80,9 @@ returns-3 c =
     let sound = reach .before in
     let number = sound .before .before in
     let start = number .before .before .before .before .before in
-    number-answers (job start) (start .args .carrier .0) (job-sound sound) (c .enum-told4 .given .1) (reach .check-reach .ensures) (number .check-number .result) (number .check-number .ensures)
+    judged-then (jobQuestion (job start)) (lacking (carriers (job start)) (start .args .carrier .0) ∷ [])
+    (c .enum-told4 .given .1) (reach-judged reach)
+    (number .check-number .result) (number .check-number .ensures)
 
 pub check-asked-spec : {M : Type 1} → statement M
 check-asked-spec =

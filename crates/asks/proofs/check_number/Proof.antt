@@ -1,7 +1,9 @@
--- `asks::check_number` meets its contract: 10 is given at the number named exactly if that is no carrier's number. Assumes nothing.
+-- `asks::check_number` meets its contract: 10 is given at the number named exactly if that is no carrier's
+-- number. Assumes nothing.
 use native.Mathlib.Omega.{arith}
 use borrow.Author.Needs.{needs}
-use Rattle.asks.proofs.Asking.{number-lacking, number-there}
+use Rattle.hall.proofs.Compose.{none-at-all}
+use Rattle.hall.proofs.Places.{asked-here, asked-clear}
 use Rattle.asks.proofs.check_number.Statement.{statement}
 use Rattle.asks.proofs.check_number.Tie as tie
 
@@ -9,10 +11,10 @@ cast-number : tie.Need-cast-number
 cast-number c = search needs
 
 returns : tie.Need-returns
-returns c = number-lacking _ _ (omega (arith, c .if1 .taken))
+returns c = asked-here (omega (arith, c .if1 .taken))
 
 returns-2 : tie.Need-returns-2
-returns-2 c = number-there _ _ (omega (arith, c .if1 .left))
+returns-2 c = asked-clear (λ h. omega (arith, c .if1 .left)) none-at-all
 
 pub check-number-spec : {M : Type 1} → statement M
 check-number-spec = tie.close (tie.spec cast-number returns returns-2)

@@ -1,25 +1,32 @@
--- `asks::check_reach` meets its contract. The invariant: a walk takes each carrier before carrier i to its goal. The measure is how many carriers are
--- left. Assumes nothing.
+-- `asks::check_reach` meets its contract. The invariant: a walk takes each carrier before carrier i to its
+-- goal. The measure is how many carriers are left. Assumes nothing.
 use mathlib.Core.Path.{_≡_, refl}
-use Prim.Native.Nat.{ℕ, _+_, _*_, _-_, _/_, _≤_, _<_}
+use Prim.Native.Nat.{_-_, _/_, _≤_}
 use native.Mathlib.Omega.{arith}
 use borrow.Author.Needs.{needs}
 use borrow.Author.Count.{below-more}
-use lib.ListN.{length, getD}
-use Rattle.hall.specs.declared.Fault.the-variants.{Unreachable}
-use Rattle.hall.specs.Floor.{NoWalk, floorOf}
-use Rattle.network.proofs.Places.{told, told-not, place-refused, places-sound}
+use lib.ListN.{length}
+use Rattle.hall.specs.Floor.{networkOf}
+use Rattle.hall.specs.Stages.{here, ClearAt}
+use Rattle.hall.specs.Questions.{walkChecks}
+use Rattle.hall.proofs.Answers.{affirmed, denied}
+use Rattle.hall.proofs.Compose.{first-here}
+use Rattle.hall.proofs.Places.{Passed, each-first, loop-begins, loop-ends}
 use Rattle.asks.proofs.check_reach.Statement.{statement}
 use Rattle.asks.proofs.check_reach.Tie as tie
 
 abbrev Inv-loop : tie.InvT-loop
-Inv-loop nodes lanes moves count i₀ i = (count ≡ length moves / 2) × (i ≤ count) × ((q : ℕ) → q < i → ¬ NoWalk (floorOf nodes lanes) (getD moves (2 * q) 0) (getD moves (2 * q + 1) 0))
+Inv-loop nodes lanes moves count i₀ i =
+    (count ≡ length moves / 2) × (i ≤ count) × Passed (walkChecks (networkOf nodes lanes) moves) i
 
 abbrev μ-loop : tie.MeasureT-loop
 μ-loop nodes lanes moves count i₀ i = count - i
 
 loop-holds : tie.Need-loop-holds Inv-loop μ-loop
-loop-holds c = (refl, omega arith, λ q l f. omega arith)
+loop-holds c =
+    let args = c .before .before .args in
+    let network = networkOf (args .nodes) (args .lanes .now) in
+    (refl, omega arith, loop-begins (walkChecks network (args .moves .now)))
 
 mul-at : tie.Need-mul-at Inv-loop μ-loop
 mul-at c = search needs
@@ -44,14 +51,19 @@ cut-off-requires c κs =
     let in-loop = c .before .before in
     let loop = in-loop .before in
     let walkable = loop .before .before .before .pre in
-    (walkable .few, walkable .starts _ (omega (arith, in-loop .loop-test .taken)), walkable .goals _ (omega (arith, in-loop .loop-test .taken)))
+    let there = in-loop .loop-test .taken in
+    let ends = walkable .ends in
+    (walkable .few, ends .starts _ (omega (arith, there)), ends .goals _ (omega (arith, there)))
 
 returns : tie.Need-returns Inv-loop μ-loop
 returns c =
     let called = c .before in
     let in-loop = called .before .before .before in
     let loop = in-loop .before in
-    place-refused Unreachable (length (loop .before .before .before .args .moves .now) / 2) (in-loop .loop-test .taken) (loop .loop .inv .2) (told (c .if1 .taken) (called .cut-off .ensures))
+    let none = affirmed _ (c .if1 .taken) (called .cut-off .ensures) in
+    let args = loop .before .before .before .args in
+    let checks = walkChecks (networkOf (args .nodes) (args .lanes .now)) (args .moves .now) in
+    first-here (each-first checks (in-loop .loop-test .taken) (loop .loop .inv .2) (here (refl, none)))
 
 add-i : tie.Need-add-i Inv-loop μ-loop
 add-i c = search needs
@@ -63,10 +75,14 @@ loop-again : tie.Need-loop-again Inv-loop μ-loop
 loop-again c =
     let called = c .before in
     let loop = called .before .before .before .before in
-    (refl, omega arith, below-more _ _ (loop .loop .inv .2) (told-not (c .if1 .left) (called .cut-off .ensures)))
+    let some = denied _ (c .if1 .left) (called .cut-off .ensures) in
+    let passed = loop .loop .inv .2 .clear in
+    let args = loop .before .before .before .args in
+    let checks = walkChecks (networkOf (args .nodes) (args .lanes .now)) (args .moves .now) in
+    (refl, omega arith, record { clear = below-more (ClearAt checks) _ passed (some, tt) })
 
 returns-2 : tie.Need-returns-2 Inv-loop μ-loop
-returns-2 c = places-sound Unreachable (length (c .before .before .before .before .args .moves .now) / 2) (c .before .loop .inv .2) (c .loop-test .left)
+returns-2 c = loop-ends (c .before .loop .inv .2) (c .loop-test .left)
 
 pub check-reach-spec : {M : Type 1} → statement M
 check-reach-spec =

@@ -1,31 +1,22 @@
--- `asks::cut_off` meets its contract: the walk serves a start that is a node, so the row has the goal's distance from there, and 65,535 stands for no
--- walk. Assumes nothing.
-use mathlib.Core.Path.{_≡_}
-use mathlib.Core.Logic.{_≢_}
-use Prim.Native.Nat.{ℕ}
-use native.Mathlib.Omega.{arith}
+-- `asks::cut_off` meets its contract: the walk serves a start that is a node, so the row has the goal's
+-- distance from there, and the mark alone stands for no walk. Assumes nothing.
 use lib.ListN.{getD}
 use borrow.Author.Needs.{needs}
-use Rattle.hall.specs.Floor.{Floor, NoWalk, DistanceIs, no-walk, distance, floorOf}
+use Rattle.hall.specs.Floor.{DistanceIs, networkOf, floor}
+use Rattle.hall.proofs.Walks.{true-distance}
 use Rattle.walk.proofs.WalkRow.{rowed-served}
+use Rattle.path.proofs.SoundMove.{marked-none}
 use Rattle.asks.proofs.cut_off.Statement.{statement}
 use Rattle.asks.proofs.cut_off.Tie as tie
 
--- the mark stands for no walk, and no other number does
-marked-none : {F : Floor} {a b r : ℕ} → DistanceIs F a b r → r ≡ 65535 → NoWalk F a b
-marked-none (no-walk e none) h = none
-marked-none (distance small d) h = absurd (let x : ⊥ = omega arith in x)
-
-unmarked-some : {F : Floor} {a b r : ℕ} → DistanceIs F a b r → r ≢ 65535 → ¬ NoWalk F a b
-unmarked-some (no-walk e none) h = absurd (h e)
-unmarked-some {r = r} (distance small d) h = λ none. none r (d .walk)
-
 -- the distance that the walk has left at the goal
 goal-distance : (c : tie.After-row2) → let args = c .before .before .before .before .args in
-    DistanceIs (floorOf (args .nodes) (args .lanes .now)) (args .start) (args .goal) (getD (c .before .distances .last .1 .1 .1 .0) (args .goal) 0)
+    DistanceIs (floor (networkOf (args .nodes) (args .lanes .now))) (args .start) (args .goal)
+    (getD (c .before .distances .last .1 .1 .1 .0) (args .goal) 0)
 goal-distance c =
     let pre = c .before .before .before .before .pre in
-    rowed-served (record { few = pre .0; on-floor = pre .1; wide = search needs }) (c .before .distances .ensures) .1 .holds _ (pre .2)
+    rowed-served (record { few = pre .0; on-floor = pre .1; wide = search needs })
+    (c .before .distances .ensures) .1 .holds _ (pre .2)
 
 slice-aggregate-distances : tie.Need-slice-aggregate-distances
 slice-aggregate-distances c = search needs
@@ -43,7 +34,7 @@ returns : tie.Need-returns
 returns c = marked-none (goal-distance (c .before)) (c .if1 .taken)
 
 returns-2 : tie.Need-returns-2
-returns-2 c = unmarked-some (goal-distance (c .before)) (c .if1 .left)
+returns-2 c = λ none. none _ (true-distance (goal-distance (c .before)) (c .if1 .left) .walk)
 
 pub cut-off-spec : {M : Type 1} → statement M
 cut-off-spec =

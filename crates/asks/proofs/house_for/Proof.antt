@@ -1,33 +1,54 @@
--- `asks::house_for` meets its contract: a short list is refused before anything else and stays as it came. A refusal of the job or of the number
--- zeroes the list. Where neither is at fault, the carrier has a start and a goal in the moves, and the question with that move answers for the job.
--- Assumes nothing.
+-- `asks::house_for` meets its contract: a short list is refused before anything else and stays as it came. A
+-- refusal of the job or of the number zeroes the list. Where neither is at fault, the carrier has a start and
+-- a goal in the moves, and the question with that move answers for the job. Assumes nothing.
 use mathlib.Core.Path.{refl}
+use Prim.Native.Nat.{_<_}
 use native.Mathlib.Omega.{arith}
 use borrow.Author.Needs.{needs}
-use Rattle.hall.specs.Job.{Numbers}
-use Rattle.hall.specs.Refusals.{None}
-use Rattle.network.proofs.Sections.{soundness}
-use Rattle.asks.specs.Asked.{jobOf, AskedFaults}
+use Rattle.hall.specs.Floor.{networkOf}
+use Rattle.hall.specs.Job.{Numbers, carriers, jobOf, start, goal}
+use Rattle.hall.specs.Stages.{None}
+use Rattle.hall.specs.Questions.{askedQuestion}
+use Rattle.hall.proofs.Compose.{sound-none}
+use Rattle.path.specs.Paths.{saidHoused}
+use Rattle.path.proofs.Housing.{left-short, left-refused}
 use Rattle.asks.proofs.OneOfJob.{carrier-there}
-use Rattle.asks.proofs.Answers.{house-short, house-refused, house-of-move}
+use Rattle.asks.proofs.Answers.{house-of-move}
 use Rattle.asks.proofs.house_for.Statement.{statement}
 use Rattle.asks.proofs.house_for.Tie as tie
 
 -- the job that is asked about
 abbrev job : tie.Start → Numbers
-job c = jobOf (c .args .nodes) (c .args .lanes .now) (c .args .moves .now) (c .args .order .now)
+job c = jobOf (networkOf (c .args .nodes) (c .args .lanes .now)) (c .args .moves .now) (c .args .order .now)
 
--- neither the job nor the number is at fault
-asked-sound : (c : tie.After-enum-told) → let start = c .before .before .before .before .before .before .before .before in None (AskedFaults (job start) (start .args .carrier .0))
+-- neither the job nor the number is at fault, and so the carrier has a move
+asked-sound : (c : tie.After-enum-told) →
+    let begin = c .before .before .before .before .before .before .before .before in
+    None (askedQuestion (job begin) (begin .args .carrier .0))
 asked-sound c =
     let asked = c .before .before in
-    let start = asked .before .before .before .before .before .before in
-    soundness (AskedFaults (job start) (start .args .carrier .0)) (c .enum-told .given .1) (asked .check-asked .ensures)
+    let begin = asked .before .before .before .before .before .before in
+    sound-none (askedQuestion (job begin) (begin .args .carrier .0))
+    (c .enum-told .given .1) (asked .check-asked .ensures)
+
+carrier-below : (c : tie.After-enum-told) →
+    let begin = c .before .before .before .before .before .before .before .before in
+    begin .args .carrier .0 < carriers (job begin)
+carrier-below c =
+    let begin = c .before .before .before .before .before .before .before .before in
+    carrier-there (job begin) (begin .args .carrier .0) (asked-sound c)
 
 returns : tie.Need-returns
 returns c =
-    let start = c .before .before .before .before .before in
-    record { given = house-short (job start) (start .args .carrier .0) (start .args .path .now) (omega (arith, c .if1 .taken)); job-kept = refl }
+    let begin = c .before .before .before .before .before in
+    let j = job begin in
+    let n = begin .args .carrier .0 in
+    record {
+      given =
+          left-short (askedQuestion j n) (j .network) (start j n) (goal j n)
+          (begin .args .path .now) (omega (arith, c .if1 .taken));
+      job-kept = refl;
+    }
 
 check-asked-requires : tie.Need-check-asked-requires
 check-asked-requires c κs = search needs
@@ -47,9 +68,14 @@ returns-2 c =
     let told = zeros .before .before .before in
     let asked = told .before .before in
     let room = asked .before in
-    let start = room .before .before .before .before .before in
+    let begin = room .before .before .before .before .before in
+    let j = job begin in
+    let n = begin .args .carrier .0 in
     record {
-      given = house-refused (job start) (start .args .carrier .0) (start .args .path .now) (omega (arith, room .if1 .left)) (told .asked .given .1) (asked .check-asked .ensures) (zeros .zero-first .ensures);
+      given =
+          left-refused (askedQuestion j n) (j .network) (start j n) (goal j n)
+          (begin .args .path .now) (omega (arith, room .if1 .left)) (omega arith)
+          (told .asked .given .1) (asked .check-asked .ensures) (zeros .zero-first .ensures);
       job-kept = refl;
     }
 
@@ -68,7 +94,7 @@ mul-start c = search needs
 shared-slice-read-start : tie.Need-shared-slice-read-start
 shared-slice-read-start c =
     let sound = c .before .before in
-    omega (arith, carrier-there _ _ (asked-sound sound))
+    omega (arith, carrier-below sound)
 
 add-goal : tie.Need-add-goal
 add-goal c = search needs
@@ -79,7 +105,7 @@ mul-goal c = search needs
 shared-slice-read-goal : tie.Need-shared-slice-read-goal
 shared-slice-read-goal c =
     let sound = c .before .before .before in
-    omega (arith, carrier-there _ _ (asked-sound sound))
+    omega (arith, carrier-below sound)
 
 house-requires : tie.Need-house-requires
 house-requires c κs = search needs
@@ -92,9 +118,12 @@ returns-3 c =
     let house = c .before .before in
     let sound = house .before .before .before .before .before in
     let room = sound .before .before .before in
-    let start = room .before .before .before .before .before in
+    let begin = room .before .before .before .before .before in
     record {
-      given = house-of-move (job start) (start .args .carrier .0) (start .args .path .now) (omega (arith, room .if1 .left)) (asked-sound sound) _ (house .house .result) (house .house .ensures .given);
+      given =
+          house-of-move (job begin) (begin .args .carrier .0) (begin .args .path .now) _
+          (omega (arith, room .if1 .left)) (asked-sound sound)
+          (saidHoused (house .house .result)) (house .house .ensures .given);
       job-kept = refl;
     }
 

@@ -1,27 +1,48 @@
--- `asks::judge_for` meets its contract: a refusal of the job or of the number is the first fault. Where neither is at fault, the carrier has a start
--- and a goal in the moves, and the question with that move answers for the job: its only refusal is 11. Assumes nothing.
+-- `asks::judge_for` meets its contract: a refusal of the job or of the number is the first fault. Where
+-- neither is at fault, the carrier has a start and a goal in the moves, and the question with that move
+-- answers for the job: its only refusal is 11. Assumes nothing.
 use mathlib.Core.Path.{refl}
+use mathlib.Core.List.{[], _∷_}
+use Prim.Native.Nat.{_<_}
 use native.Mathlib.Omega.{arith}
 use borrow.Author.Needs.{needs}
-use Rattle.hall.specs.Job.{Numbers}
-use Rattle.hall.specs.Refusals.{None}
-use Rattle.network.proofs.Sections.{refusal, soundness}
-use Rattle.asks.specs.Asked.{jobOf, AskedFaults}
+use Rattle.hall.specs.Floor.{networkOf}
+use Rattle.hall.specs.Job.{Numbers, carriers, jobOf, start, goal}
+use Rattle.hall.specs.Stages.{None}
+use Rattle.hall.specs.Questions.{unfit, askedQuestion}
+use Rattle.hall.proofs.Compose.{judged-stop, sound-none}
+use Rattle.path.specs.Paths.{Unfit}
 use Rattle.asks.proofs.OneOfJob.{carrier-there}
-use Rattle.asks.proofs.Answers.{list-refused, list-of-move}
+use Rattle.asks.proofs.Answers.{list-of-move}
 use Rattle.asks.proofs.judge_for.Statement.{statement}
 use Rattle.asks.proofs.judge_for.Tie as tie
 
 -- the job that is asked about
 abbrev job : tie.Start → Numbers
-job c = jobOf (c .args .nodes) (c .args .lanes .now) (c .args .moves .now) (c .args .order .now)
+job c = jobOf (networkOf (c .args .nodes) (c .args .lanes .now)) (c .args .moves .now) (c .args .order .now)
 
--- neither the job nor the number is at fault
-asked-sound : (c : tie.After-enum-told2) → let start = c .before .before .before .before .before .before .before in None (AskedFaults (job start) (start .args .carrier .0))
+-- 11, of the list that is asked about
+abbrev Misfit : tie.Start → Type 0
+Misfit c =
+    let n = c .args .carrier .0 in
+    Unfit (job c .network) (start (job c) n) (goal (job c) n) (c .args .list .now)
+
+-- neither the job nor the number is at fault, and so the carrier has a move
+asked-sound : (c : tie.After-enum-told2) →
+    let begin = c .before .before .before .before .before .before .before in
+    None (askedQuestion (job begin) (begin .args .carrier .0))
 asked-sound c =
     let asked = c .before .before in
-    let start = asked .before .before .before .before .before in
-    soundness (AskedFaults (job start) (start .args .carrier .0)) (c .enum-told2 .given .1) (asked .check-asked .ensures)
+    let begin = asked .before .before .before .before .before in
+    sound-none (askedQuestion (job begin) (begin .args .carrier .0))
+    (c .enum-told2 .given .1) (asked .check-asked .ensures)
+
+carrier-below : (c : tie.After-enum-told2) →
+    let begin = c .before .before .before .before .before .before .before in
+    begin .args .carrier .0 < carriers (job begin)
+carrier-below c =
+    let begin = c .before .before .before .before .before .before .before in
+    carrier-there (job begin) (begin .args .carrier .0) (asked-sound c)
 
 check-asked-requires : tie.Need-check-asked-requires
 check-asked-requires c κs = search needs
@@ -32,9 +53,11 @@ enum-told c = search needs
 returns : tie.Need-returns
 returns c =
     let asked = c .before .before in
-    let start = asked .before .before .before .before .before in
+    let begin = asked .before .before .before .before .before in
     record {
-      judged = refusal (list-refused (job start) (start .args .carrier .0) (start .args .list .now)) (c .enum-told .given .1) (asked .check-asked .ensures);
+      judged =
+          judged-stop (askedQuestion (job begin) (begin .args .carrier .0)) (unfit (Misfit begin) ∷ [])
+          (c .enum-told .given .1) (asked .check-asked .ensures);
       job-kept = refl;
       list-kept = refl;
     }
@@ -54,7 +77,7 @@ mul-start c = search needs
 shared-slice-read-start : tie.Need-shared-slice-read-start
 shared-slice-read-start c =
     let sound = c .before .before in
-    omega (arith, carrier-there _ _ (asked-sound sound))
+    omega (arith, carrier-below sound)
 
 add-goal : tie.Need-add-goal
 add-goal c = search needs
@@ -65,7 +88,7 @@ mul-goal c = search needs
 shared-slice-read-goal : tie.Need-shared-slice-read-goal
 shared-slice-read-goal c =
     let sound = c .before .before .before in
-    omega (arith, carrier-there _ _ (asked-sound sound))
+    omega (arith, carrier-below sound)
 
 judge-requires : tie.Need-judge-requires
 judge-requires c κs = search needs
@@ -73,9 +96,11 @@ judge-requires c κs = search needs
 returns-2 : tie.Need-returns-2
 returns-2 c =
     let sound = c .before .before .before .before in
-    let start = sound .before .before .before .before .before .before .before in
+    let begin = sound .before .before .before .before .before .before .before in
     record {
-      judged = list-of-move (job start) (start .args .carrier .0) (start .args .list .now) (asked-sound sound) (c .judge .result) (c .judge .ensures .judged);
+      judged =
+          list-of-move (job begin) (begin .args .carrier .0) (asked-sound sound) (Misfit begin)
+          (c .judge .result) (c .judge .ensures .judged);
       job-kept = refl;
       list-kept = refl;
     }

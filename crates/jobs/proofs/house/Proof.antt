@@ -1,6 +1,7 @@
--- `jobs::house` meets its contract: a walk of its MIR, by hand. All that it knows of the two functions that it calls is that each meets its
--- contract. Each reference stays whole between the calls, beside its token; the local array stands behind them, opened, and comes home
--- before the way out. For a call a reference or an array is lent for a lifetime of the call's own and comes back. Assumes nothing.
+-- `jobs::house` meets its contract: a walk of its MIR, by hand. All that it knows of the two functions that
+-- it calls is that each meets its contract. Each reference stays whole between the calls, beside its token;
+-- the local array stands behind them, opened, and comes home before the way out. For a call a reference or an
+-- array is lent for a lifetime of the call's own and comes back. Assumes nothing.
 use mathlib.Core.Path.{_≡_, refl, _∙_}
 use Prim.Native.Nat.{ℕ, _<_, _^_}
 use mathlib.Core.Option.{some}
@@ -50,9 +51,9 @@ use Rattle.path.specs.declared.Housed.{Housed}
 use Rattle.hall.specs.declared.Carrier.{Carrier}
 use Rattle.records.specs.Table.{moved}
 use Rattle.records.proofs.Laws.{moved-length}
-use Rattle.planner.specs.Planning.{job}
-use Rattle.asks.specs.Asked.{HouseAskedGiven}
-use Rattle.jobs.specs.Asking.{HouseAnswer}
+use Rattle.hall.specs.Floor.{networkOf}
+use Rattle.hall.specs.Job.{jobOf}
+use Rattle.jobs.specs.Asking.{HouseGiven, HouseOfRecords}
 use Rattle.jobs.specs.Loading.{loaded}
 use Rattle.jobs.proofs.AskRecords.{records-housed}
 use Rattle.path.proofs.Housed as H₀
@@ -120,7 +121,7 @@ module _ {M : Type 1} (𝓤 : URA M) (H : Heap 𝓤) (A : Atoms 𝓤) (W : Given
       ‵ (ShrSlice erased κ₂ u16 .own (ref b₂ o₂ γ₂ order) (mv₂ ∷ [])) ∷ ‵ (flft κ₂ q₂) ∷
       ‵ (MutSlice erased κ₃ u16 .own (ref b₃ o₃ γ₃ z-path) (mv₃ ∷ [])) ∷ ‵ (flft κ₃ q₃) ∷ []
 
-  exits : (r : Housed) (v : Val) (z-path : List ℕ) → Is H₀.the-row r (v ∷ []) → HouseAnswer x₁ lanes lanes records records order order (x₅ .0) path z-path r → length z-path ≡ length path → ent 𝓤 (⋆ 𝓤 H A (Refs z-path)) (Post v)
+  exits : (r : Housed) (v : Val) (z-path : List ℕ) → Is H₀.the-row r (v ∷ []) → HouseOfRecords (networkOf x₁ lanes) (networkOf x₁ lanes) records records order order (x₅ .0) path z-path r → length z-path ≡ length path → ent 𝓤 (⋆ 𝓤 H A (Refs z-path)) (Post v)
   exits r v z-path is e long-path =
       qed W (Refs z-path) ∵
       suffices ! _ (ends-at 𝓤 H A f.ended stayed (f.clauses 𝓤 H A mem run) W (((κ₀, (κ₁, (κ₂, (κ₃, tt)))), (q₀, (q₁, (q₂, (q₃, tt)))), tt, a, at), tt) v r (tt, (tt, (tt, (tt, (tt, (z-path, tt)))))) (tt, (tt, (tt, (tt, (tt, (long-path, tt))))))) $ says ! e $
@@ -166,7 +167,7 @@ module _ {M : Type 1} (𝓤 : URA M) (H : Heap 𝓤) (A : Atoms 𝓤) (W : Given
         nothing ! $ adds ! $ owned ! C₂.the-row (Is C₂.the-row) (LL.makes C₂.the-type C₂′.the-plain 𝓤 H A) x₅ (v₅ ∷ []) g₅ $ fjoin ! $ adds ! $ adds ! $ passes ! w64 (length records) (g-records .0) $ adds ! $ passes ! w64 x₁ (g₁) $
         move ! (5 ∷ 10 ∷ 2 ∷ 7 ∷ []) $ nothing ! $ adds ! $ adds ! $ adds ! $ adds ! $
         calls-spec ! fm house-loaded.ended (house-loaded.clauses 𝓤 H A mem run) known-house-loaded (κ₀, (ν₂₃ ∷ [], (κ₂, (ν₂₆ ∷ [], tt)))) (q₀, (fullShare, (q₂, (fullShare, tt)))) tt (x₁, (ref b₀ o₀ γ₀ lanes, ((length records), (ref l₇ 0 δ₂₃ (moved records moves₀), (ref b₂ o₂ γ₂ order, (x₅, (ref b₃ o₃ δ₂₆ path, tt))))))) (vint w64 x₁ ∷ [], (mv₀ ∷ [], (vint w64 (length records) ∷ [], (sliceVal (l₇, 0) 130 ∷ [], (mv₂ ∷ [], (v₅ ∷ [], (mv₃ ∷ [], tt))))))) tt (id⊢ 𝓤 (emp 𝓤))
-        (λ r ws. HouseAskedGiven (job x₁ lanes (loaded (length records) (moved records moves₀)) order) (x₅ .0) path (ws .1 .1 .1 .1 .1 .1 .0) r) (λ r ws. id⊢ 𝓤 _) (and-then ! (load ! (from ! (stop !)) (look ! 34 refl)) (and-then ! (load ! (from ! (stop !)) (look ! 32 refl)) (and-then ! (load ! (from ! (stop !)) (look ! 15 refl)) (and-then ! (load ! (from ! (stop !)) (look ! 11 refl)) (and-then ! (load ! (from ! (stop !)) (look ! 28 refl)) (and-then ! (load ! (from ! (stop !)) (look ! 26 refl)) (and-then ! (load ! (from ! (stop !)) (look ! 7 refl)) (no-more !)))))))) (λ v₂ r₂ ws₂ e₂ is₂.
+        (λ r ws. HouseGiven (jobOf (networkOf x₁ lanes) (loaded (length records) (moved records moves₀)) order) (x₅ .0) path (ws .1 .1 .1 .1 .1 .1 .0) r) (λ r ws. id⊢ 𝓤 _) (and-then ! (load ! (from ! (stop !)) (look ! 34 refl)) (and-then ! (load ! (from ! (stop !)) (look ! 32 refl)) (and-then ! (load ! (from ! (stop !)) (look ! 15 refl)) (and-then ! (load ! (from ! (stop !)) (look ! 11 refl)) (and-then ! (load ! (from ! (stop !)) (look ! 28 refl)) (and-then ! (load ! (from ! (stop !)) (look ! 26 refl)) (and-then ! (load ! (from ! (stop !)) (look ! 7 refl)) (no-more !)))))))) (λ v₂ r₂ ws₂ e₂ is₂.
         parts ! $ parts ! $ parts ! $ parts ! $ drop ! $ move ! (4 ∷ []) $ fsplit ! $ drop ! $ fsplit ! $ drop ! $ fsplit ! $ drop ! $ fsplit ! $ drop ! $ fsplit ! $ drop ! $ fsplit ! $ drop ! $ parts ! $ drop ! $
         let path₂ = ws₂ .1 .1 .1 .1 .1 .1 .0 in
         move ! (1 ∷ 8 ∷ 0 ∷ []) $ unlends-mut ! tt u16 path b₃ o₃ path₂ (λ long-path₂. move ! (3 ∷ 6 ∷ []) $ unshares-array ! tt u16 (moved records moves₀) l₇ 0 $ move ! (5 ∷ 4 ∷ 7 ∷ 8 ∷ 6 ∷ 3 ∷ 1 ∷ 2 ∷ 0 ∷ []) $
@@ -174,7 +175,7 @@ module _ {M : Type 1} (𝓤 : URA M) (H : Heap 𝓤) (A : Atoms 𝓤) (W : Given
         -- the arrays come home
         move ! (8 ∷ []) $ array-shuts ! (num w16) 130 (moved records moves₀) l₇ 0 moves₁-long $ puts ! 24 $
         returns ! (look ! 38 refl) $ frees-all ! 8 (some _ ∷ some _ ∷ some _ ∷ some _ ∷ some _ ∷ some _ ∷ some _ ∷ some _ ∷ some _ ∷ some _ ∷ some _ ∷ some _ ∷ some _ ∷ some _ ∷ some _ ∷ some _ ∷ []) refl $
-        by ! (exits r₂ v₂ path₂ is₂ (records-housed x₁ lanes records order (x₅ .0) path path₂ r₂ e₂) (long-path₂)))))))))))))))))))))))))
+        by ! (exits r₂ v₂ path₂ is₂ (records-housed (networkOf x₁ lanes) records order (x₅ .0) path path₂ r₂ e₂) (long-path₂)))))))))))))))))))))))))
 
 module _ {M : Type 1} (𝓤 : URA M) (H : Heap 𝓤) (A : Atoms 𝓤) (W : Given 𝓤 H A) (mem : Memory → SProp 𝓤) (run : Routine → Fun 𝓤) (𝓣 : Tables 𝓤 H) (known-load-moves : Triple 𝓤 (𝓣 .C #records·load-moves) (tripleOf 𝓤 H A load-moves.signature (load-moves.spec 𝓤 H A mem run))) (known-house-loaded : Triple 𝓤 (𝓣 .C #jobs·house-loaded) (tripleOf 𝓤 H A house-loaded.signature (house-loaded.spec 𝓤 H A mem run))) where
   walks : Walks 𝓤 H A f.ended stayed (WpFn 𝓤 H (𝓣 .C) (𝓣 .Λ) code.function) (f.clauses 𝓤 H A mem run)

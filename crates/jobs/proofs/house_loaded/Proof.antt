@@ -1,7 +1,9 @@
--- `jobs::house_loaded` meets its contract: the part that is handed on is that of the loaded moves, and what is answered of it is the answer. There is no loop. Assumes nothing.
+-- `jobs::house_loaded` meets its contract: the part that is handed on is that of the loaded moves, and what
+-- is answered of it is the answer. There is no loop. Assumes nothing.
 use borrow.Author.Needs.{needs}
-use Rattle.asks.specs.Asked.{HouseAskedGiven}
-use Rattle.planner.specs.Planning.{job}
+use Rattle.jobs.specs.Asking.{HouseGiven}
+use Rattle.hall.specs.Floor.{networkOf}
+use Rattle.hall.specs.Job.{jobOf}
 use Rattle.jobs.proofs.Loading.{part-length, part-as}
 use Rattle.jobs.proofs.house_loaded.Statement.{statement}
 use Rattle.jobs.proofs.house_loaded.Tie as tie
@@ -27,7 +29,7 @@ returns c =
     let a = counted .before .before .before .before .before .args in
     let left = asked .house-for .last .1 .1 .1 .1 .1 .0 in
     part-as (a .records) (a .moves .now) (counted .numbers-of .result) (counted .numbers-of .ensures)
-    (λ ms. HouseAskedGiven (job (a .nodes) (a .lanes .now) ms (a .order .now)) (a .carrier .0) (a .path .now) left (asked .house-for .result)) (asked .house-for .ensures .given)
+    (λ ms. HouseGiven (jobOf (networkOf (a .nodes) (a .lanes .now)) ms (a .order .now)) (a .carrier .0) (a .path .now) left (asked .house-for .result)) (asked .house-for .ensures .given)
 
 pub house-loaded-spec : {M : Type 1} → statement M
 house-loaded-spec = tie.close (tie.spec numbers-of-requires slice-aggregate-house-for house-for-requires same-length returns)

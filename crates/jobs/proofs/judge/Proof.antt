@@ -1,6 +1,7 @@
--- `jobs::judge` meets its contract: a walk of its MIR, by hand. All that it knows of the two functions that it calls is that each meets its
--- contract. Each reference stays whole between the calls, beside its token; the local array stands behind them, opened, and comes home
--- before the way out. For a call the array is lent for a lifetime of the call's own and comes back. Assumes nothing.
+-- `jobs::judge` meets its contract: a walk of its MIR, by hand. All that it knows of the two functions that
+-- it calls is that each meets its contract. Each reference stays whole between the calls, beside its token;
+-- the local array stands behind them, opened, and comes home before the way out. For a call the array is lent
+-- for a lifetime of the call's own and comes back. Assumes nothing.
 use mathlib.Core.Path.{_≡_, refl, _∙_}
 use Prim.Native.Nat.{ℕ, _<_, _^_}
 use mathlib.Core.Option.{some}
@@ -48,12 +49,11 @@ use Rattle.records.proofs.Calls.{hands-shr, adds, parts, passes, calls-spec}
 use Rattle.records.proofs.Arrays.{repeated-is, array-opens, array-shuts, lends-array, unlends-array, shares-array, unshares-array}
 use Rattle.hall.specs.declared.Checked.{Checked}
 use Rattle.hall.specs.declared.Carrier.{Carrier}
-use Rattle.hall.specs.Refusals.{Judged}
 use Rattle.records.specs.Table.{moved}
 use Rattle.records.proofs.Laws.{moved-length}
-use Rattle.planner.specs.Planning.{job}
-use Rattle.asks.specs.Asked.{ListAskedFaults}
-use Rattle.jobs.specs.Asking.{ListAnswer}
+use Rattle.hall.specs.Floor.{networkOf}
+use Rattle.hall.specs.Job.{jobOf}
+use Rattle.jobs.specs.Asking.{ListGiven, ListOfRecords}
 use Rattle.jobs.specs.Loading.{loaded}
 use Rattle.jobs.proofs.AskRecords.{records-judged}
 use Rattle.hall.proofs.Checked as C₀
@@ -121,7 +121,7 @@ module _ {M : Type 1} (𝓤 : URA M) (H : Heap 𝓤) (A : Atoms 𝓤) (W : Given
       ‵ (ShrSlice erased κ₂ u16 .own (ref b₂ o₂ γ₂ order) (mv₂ ∷ [])) ∷ ‵ (flft κ₂ q₂) ∷
       ‵ (ShrSlice erased κ₃ u16 .own (ref b₃ o₃ γ₃ list) (mv₃ ∷ [])) ∷ ‵ (flft κ₃ q₃) ∷ []
 
-  exits : (r : Checked) (v : Val) → Is C₀.the-row r (v ∷ []) → ListAnswer x₁ lanes lanes records records order order (x₅ .0) list list r → ent 𝓤 (⋆ 𝓤 H A (Refs)) (Post v)
+  exits : (r : Checked) (v : Val) → Is C₀.the-row r (v ∷ []) → ListOfRecords (networkOf x₁ lanes) (networkOf x₁ lanes) records records order order (x₅ .0) list list r → ent 𝓤 (⋆ 𝓤 H A (Refs)) (Post v)
   exits r v is e =
       qed W (Refs) ∵
       suffices ! _ (ends-at 𝓤 H A f.ended stayed (f.clauses 𝓤 H A mem run) W (((κ₀, (κ₁, (κ₂, (κ₃, tt)))), (q₀, (q₁, (q₂, (q₃, tt)))), tt, a, at), tt) v r (tt, (tt, (tt, (tt, (tt, (tt, tt)))))) (tt, (tt, (tt, (tt, (tt, (tt, tt))))))) $ says ! e $
@@ -165,13 +165,13 @@ module _ {M : Type 1} (𝓤 : URA M) (H : Heap 𝓤) (A : Atoms 𝓤) (W : Given
         nothing ! $ adds ! $ owned ! C₂.the-row (Is C₂.the-row) (LL.makes C₂.the-type C₂′.the-plain 𝓤 H A) x₅ (v₅ ∷ []) g₅ $ fjoin ! $ adds ! $ adds ! $ passes ! w64 (length records) (g-records .0) $ adds ! $ passes ! w64 x₁ (g₁) $
         move ! (10 ∷ 9 ∷ 2 ∷ 6 ∷ []) $ nothing ! $ adds ! $ adds ! $ adds ! $ adds ! $
         calls-spec ! fm judge-loaded.ended (judge-loaded.clauses 𝓤 H A mem run) known-judge-loaded (κ₀, (ν₂₃ ∷ [], (κ₂, (κ₃, tt)))) (q₀, (fullShare, (q₂, (q₃, tt)))) tt (x₁, (ref b₀ o₀ γ₀ lanes, ((length records), (ref l₇ 0 δ₂₃ (moved records moves₀), (ref b₂ o₂ γ₂ order, (x₅, (ref b₃ o₃ γ₃ list, tt))))))) (vint w64 x₁ ∷ [], (mv₀ ∷ [], (vint w64 (length records) ∷ [], (sliceVal (l₇, 0) 130 ∷ [], (mv₂ ∷ [], (v₅ ∷ [], (mv₃ ∷ [], tt))))))) tt (id⊢ 𝓤 (emp 𝓤))
-        (λ r ws. Judged (ListAskedFaults (job x₁ lanes (loaded (length records) (moved records moves₀)) order) (x₅ .0) list) r) (λ r ws. id⊢ 𝓤 _) (and-then ! (load ! (from ! (stop !)) (look ! 30 refl)) (and-then ! (load ! (from ! (stop !)) (look ! 28 refl)) (and-then ! (load ! (from ! (stop !)) (look ! 11 refl)) (and-then ! (load ! (from ! (stop !)) (look ! 7 refl)) (and-then ! (load ! (from ! (stop !)) (look ! 24 refl)) (and-then ! (load ! (from ! (stop !)) (look ! 22 refl)) (and-then ! (load ! (from ! (stop !)) (look ! 20 refl)) (no-more !)))))))) (λ v₂ r₂ ws₂ e₂ is₂.
+        (λ r ws. ListGiven (jobOf (networkOf x₁ lanes) (loaded (length records) (moved records moves₀)) order) (x₅ .0) list r) (λ r ws. id⊢ 𝓤 _) (and-then ! (load ! (from ! (stop !)) (look ! 30 refl)) (and-then ! (load ! (from ! (stop !)) (look ! 28 refl)) (and-then ! (load ! (from ! (stop !)) (look ! 11 refl)) (and-then ! (load ! (from ! (stop !)) (look ! 7 refl)) (and-then ! (load ! (from ! (stop !)) (look ! 24 refl)) (and-then ! (load ! (from ! (stop !)) (look ! 22 refl)) (and-then ! (load ! (from ! (stop !)) (look ! 20 refl)) (no-more !)))))))) (λ v₂ r₂ ws₂ e₂ is₂.
         parts ! $ parts ! $ parts ! $ parts ! $ drop ! $ move ! (4 ∷ []) $ drop ! $ move ! (2 ∷ 5 ∷ []) $ unshares-array ! tt u16 (moved records moves₀) l₇ 0 $ move ! (4 ∷ 3 ∷ 7 ∷ 8 ∷ 5 ∷ 2 ∷ 6 ∷ 1 ∷ 0 ∷ []) $
         land ! (from ! (stop !)) (init ! 34 refl (EL.lawful C₀.the-type C₀′.the-laws 𝓤 H A W tt .typed r₂ _ is₂ .0)) $
         -- the arrays come home
         move ! (8 ∷ []) $ array-shuts ! (num w16) 130 (moved records moves₀) l₇ 0 moves₁-long $ puts ! 20 $
         returns ! (look ! 34 refl) $ frees-all ! 8 (some _ ∷ some _ ∷ some _ ∷ some _ ∷ some _ ∷ some _ ∷ some _ ∷ some _ ∷ some _ ∷ some _ ∷ some _ ∷ some _ ∷ some _ ∷ some _ ∷ []) refl $
-        by ! (exits r₂ v₂ is₂ (records-judged x₁ lanes records order (x₅ .0) list r₂ e₂)))))))))))))))))))))
+        by ! (exits r₂ v₂ is₂ (records-judged (networkOf x₁ lanes) records order (x₅ .0) list r₂ e₂)))))))))))))))))))))
 
 module _ {M : Type 1} (𝓤 : URA M) (H : Heap 𝓤) (A : Atoms 𝓤) (W : Given 𝓤 H A) (mem : Memory → SProp 𝓤) (run : Routine → Fun 𝓤) (𝓣 : Tables 𝓤 H) (known-load-moves : Triple 𝓤 (𝓣 .C #records·load-moves) (tripleOf 𝓤 H A load-moves.signature (load-moves.spec 𝓤 H A mem run))) (known-judge-loaded : Triple 𝓤 (𝓣 .C #jobs·judge-loaded) (tripleOf 𝓤 H A judge-loaded.signature (judge-loaded.spec 𝓤 H A mem run))) where
   walks : Walks 𝓤 H A f.ended stayed (WpFn 𝓤 H (𝓣 .C) (𝓣 .Λ) code.function) (f.clauses 𝓤 H A mem run)

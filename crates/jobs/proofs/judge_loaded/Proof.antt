@@ -1,8 +1,9 @@
--- `jobs::judge_loaded` meets its contract: the part that is handed on is that of the loaded moves, and what is answered of it is the answer. There is no loop. Assumes nothing.
+-- `jobs::judge_loaded` meets its contract: the part that is handed on is that of the loaded moves, and what
+-- is answered of it is the answer. There is no loop. Assumes nothing.
 use borrow.Author.Needs.{needs}
-use Rattle.hall.specs.Refusals.{Judged}
-use Rattle.asks.specs.Asked.{ListAskedFaults}
-use Rattle.planner.specs.Planning.{job}
+use Rattle.hall.specs.Floor.{networkOf}
+use Rattle.hall.specs.Job.{jobOf}
+use Rattle.jobs.specs.Asking.{ListGiven}
 use Rattle.jobs.proofs.Loading.{part-length, part-as}
 use Rattle.jobs.proofs.judge_loaded.Statement.{statement}
 use Rattle.jobs.proofs.judge_loaded.Tie as tie
@@ -23,7 +24,9 @@ returns c =
     let counted = c .before .before in
     let a = counted .before .before .before .before .before .args in
     part-as (a .records) (a .moves .now) (counted .numbers-of .result) (counted .numbers-of .ensures)
-    (λ ms. Judged (ListAskedFaults (job (a .nodes) (a .lanes .now) ms (a .order .now)) (a .carrier .0) (a .list .now)) (c .judge-for .result)) (c .judge-for .ensures .judged)
+    (λ ms.
+    ListGiven (jobOf (networkOf (a .nodes) (a .lanes .now)) ms (a .order .now)) (a .carrier .0) (a .list .now)
+    (c .judge-for .result)) (c .judge-for .ensures .judged)
 
 pub judge-loaded-spec : {M : Type 1} → statement M
 judge-loaded-spec = tie.close (tie.spec numbers-of-requires slice-aggregate-judge-for judge-for-requires returns)

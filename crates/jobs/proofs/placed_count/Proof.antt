@@ -1,4 +1,5 @@
--- `jobs::placed_count` meets its contract: each test is one of the three of `short`. There is no loop. Assumes nothing.
+-- `jobs::placed_count` meets its contract: each test is one of the three of `recordsShort`. There is no loop.
+-- Assumes nothing.
 use Rattle.jobs.proofs.ReadRecords.{none-for-lanes, none-for-records, none-for-order, all-placed}
 use Rattle.jobs.proofs.placed_count.Statement.{statement}
 use Rattle.jobs.proofs.placed_count.Tie as tie

@@ -1,6 +1,7 @@
--- `jobs::plan` meets its contract: a walk of its MIR, by hand. All that it knows of the four functions that it calls is that each meets its
--- contract. Each reference stays whole between the calls, beside its token; the three local arrays stand behind them, opened, and come
--- home before the way out. For a call a reference or an array is lent for a lifetime of the call's own and comes back. Assumes nothing.
+-- `jobs::plan` meets its contract: a walk of its MIR, by hand. All that it knows of the four functions that
+-- it calls is that each meets its contract. Each reference stays whole between the calls, beside its token;
+-- the three local arrays stand behind them, opened, and come home before the way out. For a call a reference
+-- or an array is lent for a lifetime of the call's own and comes back. Assumes nothing.
 use mathlib.Core.Path.{_≡_, refl, ap, _∙_}
 use Prim.Native.Nat.{ℕ, _<_, _^_}
 use mathlib.Core.Option.{some}
@@ -48,9 +49,10 @@ use Rattle.records.proofs.Arrays.{repeated-is, array-opens, array-shuts, lends-
 use Rattle.planner.specs.declared.Planned.{Planned}
 use Rattle.records.specs.Table.{moved, timed}
 use Rattle.records.proofs.Laws.{moved-length}
-use Rattle.planner.specs.Planning as numbers
-use Rattle.planner.specs.Planning.{job, lent}
-use Rattle.jobs.specs.Planning.{Planning}
+use Rattle.hall.specs.Floor.{networkOf}
+use Rattle.hall.specs.Job.{jobOf}
+use Rattle.planner.specs.Planning.{saidPlanned, lent, Planning}
+use Rattle.jobs.specs.Planning.{RecordPlanning}
 use Rattle.jobs.specs.Loading.{loaded, storedCount}
 use Rattle.jobs.proofs.PlanRecords.{records-planned}
 use Rattle.planner.proofs.Planned as P₀
@@ -142,7 +144,7 @@ module _ {M : Type 1} (𝓤 : URA M) (H : Heap 𝓤) (A : Atoms 𝓤) (W : Given
       ‵ (ShrSlice erased κ₂ u16 .own (ref b₂ o₂ γ₂ order) (mv₂ ∷ [])) ∷ ‵ (flft κ₂ q₂) ∷
       ‵ (MutSlice erased κ₃ u16 .own (ref b₃ o₃ γ₃ z-table) (mv₃ ∷ [])) ∷ ‵ (flft κ₃ q₃) ∷ []
 
-  exits : (r : Planned) (v : Val) (z-records : List Record) (z-table : List ℕ) → Is P₀.the-row r (v ∷ []) → Planning x₁ lanes lanes records z-records order order table z-table r → length z-records ≡ length records → length z-table ≡ length table → ent 𝓤 (⋆ 𝓤 H A (Refs z-records z-table)) (Post v)
+  exits : (r : Planned) (v : Val) (z-records : List Record) (z-table : List ℕ) → Is P₀.the-row r (v ∷ []) → RecordPlanning (networkOf x₁ lanes) (networkOf x₁ lanes) records z-records order order table z-table r → length z-records ≡ length records → length z-table ≡ length table → ent 𝓤 (⋆ 𝓤 H A (Refs z-records z-table)) (Post v)
   exits r v z-records z-table is e long-records long-table =
       qed W (Refs z-records z-table) ∵
       suffices ! _ (ends-at 𝓤 H A f.ended stayed (f.clauses 𝓤 H A mem run) W (((κ₀, (κ₁, (κ₂, (κ₃, tt)))), (q₀, (q₁, (q₂, (q₃, tt)))), tt, a, at), tt) v r (tt, (tt, (z-records, (tt, (z-table, tt))))) (tt, (tt, (long-records, (tt, (long-table, tt)))))) $ says ! e $
@@ -200,7 +202,7 @@ module _ {M : Type 1} (𝓤 : URA M) (H : Heap 𝓤) (A : Atoms 𝓤) (W : Given
         move ! (13 ∷ 10 ∷ 7 ∷ 5 ∷ 2 ∷ 0 ∷ []) $ nothing ! $ adds ! $ adds ! $ adds ! $ adds ! $ adds ! $ passes ! w64 (length records) (g-records .0) $ adds ! $ passes ! w64 x₁ (g₁) $ move ! (9 ∷ 7 ∷ 5 ∷ 14 ∷ 2 ∷ 11 ∷ []) $
         nothing ! $ adds ! $ adds ! $ adds ! $ adds ! $ adds ! $ adds ! $
         calls-spec ! fm plan-loaded.ended (plan-loaded.clauses 𝓤 H A mem run) known-plan-loaded (κ₀, (ν₂₃ ∷ [], (κ₂, (ν₂₅ ∷ [], (ν₂₆ ∷ [], (ν₂₇ ∷ [], tt)))))) (q₀, (fullShare, (q₂, (fullShare, (fullShare, (fullShare, tt)))))) tt (x₁, (ref b₀ o₀ γ₀ lanes, ((length records), (ref l₆ 0 δ₂₃ (moved records moves₀), (ref b₂ o₂ γ₂ order, (ref b₃ o₃ δ₂₅ table, (ref l₇ 0 δ₂₆ distances₀, (ref l₈ 0 δ₂₇ ticks₀, tt)))))))) (vint w64 x₁ ∷ [], (mv₀ ∷ [], (vint w64 (length records) ∷ [], (sliceVal (l₆, 0) 130 ∷ [], (mv₂ ∷ [], (mv₃ ∷ [], (sliceVal (l₇, 0) 64 ∷ [], (sliceVal (l₈, 0) 64 ∷ [], tt)))))))) tt (id⊢ 𝓤 (emp 𝓤))
-        (λ r ws. numbers.Planning (job x₁ lanes (loaded (length records) (moved records moves₀)) order) (lent table distances₀ ticks₀) (lent (ws .1 .1 .1 .1 .1 .0) (ws .1 .1 .1 .1 .1 .1 .0) (ws .1 .1 .1 .1 .1 .1 .1 .0)) r) (λ r ws. id⊢ 𝓤 _) (and-then ! (load ! (from ! (stop !)) (look ! 64 refl)) (and-then ! (load ! (from ! (stop !)) (look ! 62 refl)) (and-then ! (load ! (from ! (stop !)) (look ! 51 refl)) (and-then ! (load ! (from ! (stop !)) (look ! 33 refl)) (and-then ! (load ! (from ! (stop !)) (look ! 58 refl)) (and-then ! (load ! (from ! (stop !)) (look ! 29 refl)) (and-then ! (load ! (from ! (stop !)) (look ! 25 refl)) (and-then ! (load ! (from ! (stop !)) (look ! 21 refl)) (no-more !))))))))) (λ v₂ r₂ ws₂ e₂ is₂.
+        (λ r ws. Planning (jobOf (networkOf x₁ lanes) (loaded (length records) (moved records moves₀)) order) (lent table distances₀ ticks₀) (lent (ws .1 .1 .1 .1 .1 .0) (ws .1 .1 .1 .1 .1 .1 .0) (ws .1 .1 .1 .1 .1 .1 .1 .0)) (saidPlanned r)) (λ r ws. id⊢ 𝓤 _) (and-then ! (load ! (from ! (stop !)) (look ! 64 refl)) (and-then ! (load ! (from ! (stop !)) (look ! 62 refl)) (and-then ! (load ! (from ! (stop !)) (look ! 51 refl)) (and-then ! (load ! (from ! (stop !)) (look ! 33 refl)) (and-then ! (load ! (from ! (stop !)) (look ! 58 refl)) (and-then ! (load ! (from ! (stop !)) (look ! 29 refl)) (and-then ! (load ! (from ! (stop !)) (look ! 25 refl)) (and-then ! (load ! (from ! (stop !)) (look ! 21 refl)) (no-more !))))))))) (λ v₂ r₂ ws₂ e₂ is₂.
         parts ! $ parts ! $ parts ! $ parts ! $ parts ! $ parts ! $ drop ! $ move ! (6 ∷ []) $ fsplit ! $ drop ! $ fsplit ! $ drop ! $ fsplit ! $ drop ! $ fsplit ! $ drop ! $ fsplit ! $ drop ! $ parts ! $ parts ! $ parts ! $ drop ! $
         let table₂ = ws₂ .1 .1 .1 .1 .1 .0 in
         let distances₂ = ws₂ .1 .1 .1 .1 .1 .1 .0 in
@@ -236,7 +238,7 @@ module _ {M : Type 1} (𝓤 : URA M) (H : Heap 𝓤) (A : Atoms 𝓤) (W : Given
         move ! (10 ∷ []) $ array-shuts ! (num w32) 64 ticks₂ l₈ 0 (long-ticks₂ ∙ ticks-long) $ puts ! 54 $ move ! (9 ∷ []) $ array-shuts ! (num w16) 64 distances₂ l₇ 0 (long-distances₂ ∙ distances-long) $ puts ! 55 $ move ! (8 ∷ []) $
         array-shuts ! (num w16) 130 (moved records moves₀) l₆ 0 moves₁-long $ puts ! 56 $
         returns ! (look ! 68 refl) $ frees-all ! 8 (some _ ∷ some _ ∷ some _ ∷ some _ ∷ some _ ∷ some _ ∷ some _ ∷ some _ ∷ some _ ∷ some _ ∷ some _ ∷ some _ ∷ some _ ∷ some _ ∷ some _ ∷ some _ ∷ some _ ∷ some _ ∷ some _ ∷ some _ ∷ some _ ∷ some _ ∷ some _ ∷ some _ ∷ some _ ∷ some _ ∷ some _ ∷ some _ ∷ some _ ∷ some _ ∷ some _ ∷ []) refl $
-        by ! (exits r₂ v₂ records₄ table₂ is₂ (records-planned x₁ lanes records order table table₂ distances₂ ticks₂ records₄ r₂ e₂ (rw e₃ at e₄)) (long-records₄) (long-table₂)))))))))))))))))))))))))))))))))))))))))))))))))))
+        by ! (exits r₂ v₂ records₄ table₂ is₂ (records-planned (networkOf x₁ lanes) records order table table₂ distances₂ ticks₂ records₄ r₂ e₂ (rw e₃ at e₄)) (long-records₄) (long-table₂)))))))))))))))))))))))))))))))))))))))))))))))))))
 
 module _ {M : Type 1} (𝓤 : URA M) (H : Heap 𝓤) (A : Atoms 𝓤) (W : Given 𝓤 H A) (mem : Memory → SProp 𝓤) (run : Routine → Fun 𝓤) (𝓣 : Tables 𝓤 H) (known-load-moves : Triple 𝓤 (𝓣 .C #records·load-moves) (tripleOf 𝓤 H A load-moves.signature (load-moves.spec 𝓤 H A mem run))) (known-plan-loaded : Triple 𝓤 (𝓣 .C #jobs·plan-loaded) (tripleOf 𝓤 H A plan-loaded.signature (plan-loaded.spec 𝓤 H A mem run))) (known-stored-count : Triple 𝓤 (𝓣 .C #jobs·stored-count) (tripleOf 𝓤 H A stored-count.signature (stored-count.spec 𝓤 H A mem run))) (known-store-times : Triple 𝓤 (𝓣 .C #records·store-times) (tripleOf 𝓤 H A store-times.signature (store-times.spec 𝓤 H A mem run))) where
   walks : Walks 𝓤 H A f.ended stayed (WpFn 𝓤 H (𝓣 .C) (𝓣 .Λ) code.function) (f.clauses 𝓤 H A mem run)

@@ -1,6 +1,9 @@
--- `jobs::plan_loaded` meets its contract: the part that is handed on is that of the loaded moves, and what is planned of it is the answer. There is no loop. Assumes nothing.
+-- `jobs::plan_loaded` meets its contract: the part that is handed on is that of the loaded moves, and what is
+-- planned of it is the answer. There is no loop. Assumes nothing.
 use borrow.Author.Needs.{needs}
-use Rattle.planner.specs.Planning.{job, lent, Planning}
+use Rattle.hall.specs.Floor.{networkOf}
+use Rattle.hall.specs.Job.{jobOf}
+use Rattle.planner.specs.Planning.{saidPlanned, lent, Planning}
 use Rattle.jobs.proofs.Loading.{part-length, part-as}
 use Rattle.jobs.proofs.plan_loaded.Statement.{statement}
 use Rattle.jobs.proofs.plan_loaded.Tie as tie
@@ -34,7 +37,7 @@ returns c =
     let before = lent (a .table .now) (a .distances .now) (a .ticks .now) in
     let after = lent (last .0) (last .1 .0) (last .1 .1 .0) in
     part-as (a .records) (a .moves .now) (counted .numbers-of .result) (counted .numbers-of .ensures)
-    (λ ms. Planning (job (a .nodes) (a .lanes .now) ms (a .order .now)) before after (asked .plan-moves .result)) (asked .plan-moves .ensures)
+    (λ ms. Planning (jobOf (networkOf (a .nodes) (a .lanes .now)) ms (a .order .now)) before after (saidPlanned (asked .plan-moves .result))) (asked .plan-moves .ensures)
 
 pub plan-loaded-spec : {M : Type 1} → statement M
 plan-loaded-spec =

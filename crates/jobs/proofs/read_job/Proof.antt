@@ -1,6 +1,7 @@
--- `jobs::read_job` meets its contract: a walk of its MIR, by hand. All that it knows of the three functions that it calls is that each meets its
--- contract. Each reference stays whole between the calls, beside its token; the local array stands behind them, opened, and comes home
--- before the way out. For a call a reference or an array is lent for a lifetime of the call's own and comes back. Assumes nothing.
+-- `jobs::read_job` meets its contract: a walk of its MIR, by hand. All that it knows of the three functions
+-- that it calls is that each meets its contract. Each reference stays whole between the calls, beside its
+-- token; the local array stands behind them, opened, and comes home before the way out. For a call a
+-- reference or an array is lent for a lifetime of the call's own and comes back. Assumes nothing.
 use mathlib.Core.Path.{_≡_, refl, ap, _∙_}
 use Prim.Native.Nat.{ℕ}
 use mathlib.Core.Option.{some}
@@ -45,7 +46,7 @@ use Rattle.records.proofs.Calls.{lends-mut, unlends-mut, hands-shr, adds, parts
 use Rattle.records.proofs.Arrays.{repeated-is, array-opens, array-shuts, lends-array, unlends-array, shares-array, unshares-array}
 use Rattle.text.specs.declared.reader.Read.{Read}
 use Rattle.records.specs.Table.{placed}
-use Rattle.text.specs.Left.{outcome, readOutcome}
+use Rattle.text.specs.Left.{saidRead, textOutcome, readOutcome}
 use Rattle.jobs.specs.Reading.{ReadLeft, placedCount}
 use Rattle.jobs.proofs.ReadRecords.{records-read}
 use Rattle.text.proofs.reader.Read as R₀
@@ -149,7 +150,7 @@ module _ {M : Type 1} (𝓤 : URA M) (H : Heap 𝓤) (A : Atoms 𝓤) (W : Given
         -- what the parameters own, the last first, and the tokens
         move ! (8 ∷ 5 ∷ 2 ∷ 0 ∷ []) $ nothing ! $ adds ! $ adds ! $ passes ! w64 (length records) (g-records .0) $ adds ! $ adds ! $ move ! (6 ∷ 4 ∷ 2 ∷ 8 ∷ []) $ nothing ! $ adds ! $ adds ! $ adds ! $ adds ! $
         calls-spec ! fm read-numbers.ended (read-numbers.clauses 𝓤 H A mem run) known-read-numbers (κ₀, (ν₁₁ ∷ [], (ν₁₃ ∷ [], (ν₁₄ ∷ [], tt)))) (q₀, (fullShare, (fullShare, (fullShare, tt)))) tt (ref b₀ o₀ γ₀ text, (ref b₁ o₁ δ₁₁ lanes, ((length records), (ref l₅ 0 δ₁₃ moves₀, (ref b₃ o₃ δ₁₄ order, tt))))) (mv₀ ∷ [], (mv₁ ∷ [], (vint w64 (length records) ∷ [], (sliceVal (l₅, 0) 128 ∷ [], (mv₃ ∷ [], tt))))) tt (id⊢ 𝓤 (emp 𝓤))
-        (λ r ws. outcome r (ws .1 .0) (ws .1 .1 .1 .0) (ws .1 .1 .1 .1 .0) ≡ readOutcome text lanes (length records) moves₀ order) (λ r ws. id⊢ 𝓤 _) (and-then ! (load ! (from ! (stop !)) (look ! 46 refl)) (and-then ! (load ! (from ! (stop !)) (look ! 31 refl)) (and-then ! (load ! (from ! (stop !)) (look ! 29 refl)) (and-then ! (load ! (from ! (stop !)) (look ! 25 refl)) (and-then ! (load ! (from ! (stop !)) (look ! 21 refl)) (no-more !)))))) (λ v₁ r₁ ws₁ e₁ is₁.
+        (λ r ws. textOutcome (saidRead r) (ws .1 .0) (ws .1 .1 .1 .0) (ws .1 .1 .1 .1 .0) ≡ readOutcome text lanes (length records) moves₀ order) (λ r ws. id⊢ 𝓤 _) (and-then ! (load ! (from ! (stop !)) (look ! 46 refl)) (and-then ! (load ! (from ! (stop !)) (look ! 31 refl)) (and-then ! (load ! (from ! (stop !)) (look ! 29 refl)) (and-then ! (load ! (from ! (stop !)) (look ! 25 refl)) (and-then ! (load ! (from ! (stop !)) (look ! 21 refl)) (no-more !)))))) (λ v₁ r₁ ws₁ e₁ is₁.
         parts ! $ parts ! $ parts ! $ parts ! $ drop ! $ move ! (4 ∷ []) $ fsplit ! $ drop ! $ parts ! $ fsplit ! $ drop ! $ parts ! $ parts ! $ drop ! $
         let lanes₁ = ws₁ .1 .0 in
         let moves₁ = ws₁ .1 .1 .1 .0 in
@@ -183,7 +184,7 @@ module _ {M : Type 1} (𝓤 : URA M) (H : Heap 𝓤) (A : Atoms 𝓤) (W : Given
         -- the arrays come home
         move ! (8 ∷ []) $ array-shuts ! (num w16) 128 moves₁ l₅ 0 (long-moves₁ ∙ moves-long) $ puts ! 40 $
         returns ! (look ! 50 refl) $ frees-all ! 8 (some _ ∷ some _ ∷ some _ ∷ some _ ∷ some _ ∷ some _ ∷ some _ ∷ some _ ∷ some _ ∷ some _ ∷ some _ ∷ some _ ∷ some _ ∷ some _ ∷ some _ ∷ some _ ∷ some _ ∷ some _ ∷ some _ ∷ some _ ∷ some _ ∷ some _ ∷ []) refl $
-        by ! (exits r₁ v₁ lanes₁ records₃ order₁ is₁ (records-read text lanes records order e₁ (rw e₂ at e₃)) (long-lanes₁) (long-records₃) (long-order₁))))))))))))))))))))))))))))))))))))
+        by ! (exits r₁ v₁ lanes₁ records₃ order₁ is₁ (records-read text lanes records order r₁ e₁ (rw e₂ at e₃)) (long-lanes₁) (long-records₃) (long-order₁))))))))))))))))))))))))))))))))))))
 
 module _ {M : Type 1} (𝓤 : URA M) (H : Heap 𝓤) (A : Atoms 𝓤) (W : Given 𝓤 H A) (mem : Memory → SProp 𝓤) (run : Routine → Fun 𝓤) (𝓣 : Tables 𝓤 H) (known-read-numbers : Triple 𝓤 (𝓣 .C #text·read-numbers) (tripleOf 𝓤 H A read-numbers.signature (read-numbers.spec 𝓤 H A mem run))) (known-placed-count : Triple 𝓤 (𝓣 .C #jobs·placed-count) (tripleOf 𝓤 H A placed-count.signature (placed-count.spec 𝓤 H A mem run))) (known-store-moves : Triple 𝓤 (𝓣 .C #records·store-moves) (tripleOf 𝓤 H A store-moves.signature (store-moves.spec 𝓤 H A mem run))) where
   walks : Walks 𝓤 H A f.ended stayed (WpFn 𝓤 H (𝓣 .C) (𝓣 .Λ) code.function) (f.clauses 𝓤 H A mem run)

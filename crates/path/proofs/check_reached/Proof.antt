@@ -1,33 +1,50 @@
--- `path::check_reached` meets its contract: the listed checks first, and a refusal of theirs is the first fault. If they find none, the distance walk serves the goal
--- and fills the row, whose place for the start tells whether there is a walk. Assumes nothing.
+-- `path::check_reached` meets its contract: the checks 2 to 5 first, and a refusal of theirs is the first
+-- fault. If they find none, the distance walk serves the goal and fills the row, whose place for the start
+-- tells whether there is a walk. Assumes nothing.
+use mathlib.Core.List.{[], _∷_}
 use native.Mathlib.Omega.{arith}
 use borrow.Author.Needs.{needs}
-use Rattle.hall.specs.Job.{oneMove}
-use Rattle.hall.specs.Refusals.{Checks, None}
-use Rattle.walk.specs.Row.{Filled}
-use Rattle.network.proofs.Sections.{refusal, soundness}
+use Rattle.hall.specs.declared.Fault.the-variants.{Unreachable}
+use Rattle.hall.specs.Floor.{NoWalk, Network, networkOf, floor}
+use Rattle.hall.specs.Stages.{None, asked}
+use Rattle.hall.specs.Questions.{moveEnds}
+use Rattle.hall.proofs.Compose.{judged-stop, sound-none}
+use Rattle.walk.specs.Row.{RowFilled}
 use Rattle.walk.proofs.WalkRow.{rowed-served}
-use Rattle.path.proofs.Questions.{checks-first}
 use Rattle.path.proofs.SoundMove.{few-nodes, start-node, goal-node, not-both, walk-missing, walk-there}
 use Rattle.path.proofs.check_reached.Statement.{statement}
 use Rattle.path.proofs.check_reached.Tie as tie
 
+-- the network that is asked about
+abbrev network : tie.Start → Network
+network c = networkOf (c .args .nodes) (c .args .lanes .now)
+
 -- the checks have found no fault
-checks-sound : (c : tie.After-enum-told2) → let args = c .before .before .before .before .before .args in None (Checks (oneMove (args .nodes) (args .lanes .now) (args .start) (args .goal)))
+checks-sound : (c : tie.After-enum-told2) → let start = c .before .before .before .before .before in
+    None (moveEnds (network start) (start .args .start) (start .args .goal))
 checks-sound c =
     let called = c .before .before in
-    let args = called .before .before .before .args in
-    soundness (Checks (oneMove (args .nodes) (args .lanes .now) (args .start) (args .goal))) (c .enum-told2 .given .1) (called .check-move .ensures)
+    let start = called .before .before .before in
+    sound-none (moveEnds (network start) (start .args .start) (start .args .goal))
+    (c .enum-told2 .given .1) (called .check-move .ensures)
 
 -- so the walk has filled the row
-row-filled : (c : tie.After-slice-known3) → let args = c .before .before .before .before .before .before .before .before .before .before .args in
-    Filled (args .nodes) (args .lanes .now) (args .goal) (args .row .now) (c .before .before .before .distances .last .1 .1 .1 .0)
+row-filled : (c : tie.After-slice-known3) →
+    let start = c .before .before .before .before .before .before .before .before .before .before in
+    RowFilled (network start) (start .args .goal) (start .args .row .now)
+    (c .before .before .before .distances .last .1 .1 .1 .0)
 row-filled c =
     let walked = c .before .before .before in
     let told = walked .before .before in
     let start = told .before .before .before .before .before in
-    let few = few-nodes _ _ _ _ (checks-sound told) in
-    rowed-served (record { few = few; on-floor = goal-node _ _ _ _ (checks-sound told); wide = omega (arith, few, start .pre) }) (walked .distances .ensures) .1
+    let few = few-nodes (network start) (start .args .start) (start .args .goal) (checks-sound told) in
+    rowed-served
+    (record {
+      few = few;
+      on-floor = goal-node (network start) (start .args .start) (start .args .goal) (checks-sound told);
+      wide = omega (arith, few, start .pre);
+    })
+    (walked .distances .ensures) .1
 
 check-move-requires : tie.Need-check-move-requires
 check-move-requires c κs = search needs
@@ -38,9 +55,13 @@ enum-told c = search needs
 returns : tie.Need-returns
 returns c =
     let called = c .before .before in
-    let args = called .before .before .before .args in
+    let start = called .before .before .before in
+    let args = start .args in
     record {
-      judged = refusal (checks-first (oneMove (args .nodes) (args .lanes .now) (args .start) (args .goal))) (c .enum-told .given .1) (called .check-move .ensures);
+      judged =
+          judged-stop (moveEnds (network start) (args .start) (args .goal))
+          (asked Unreachable 0 (NoWalk (floor (network start)) (args .start) (args .goal)) ∷ [])
+          (c .enum-told .given .1) (called .check-move .ensures);
       downhill = λ e. absurd (not-both (c .enum-told .given .1) e);
     }
 
@@ -56,13 +77,18 @@ mul-distance c = search needs
 slice-read-distance : tie.Need-slice-read-distance
 slice-read-distance c =
     let told = c .before .before .before .before .before in
-    omega (arith, start-node _ _ _ _ (checks-sound told), few-nodes _ _ _ _ (checks-sound told), row-filled c .size, told .before .before .before .before .before .pre)
+    let start = told .before .before .before .before .before in
+    let on-floor = start-node (network start) (start .args .start) (start .args .goal) (checks-sound told) in
+    let few = few-nodes (network start) (start .args .start) (start .args .goal) (checks-sound told) in
+    omega (arith, on-floor, few, row-filled c .size, start .pre)
 
 same-length : tie.Need-same-length
 same-length c = search needs
 
 returns-2 : tie.Need-returns-2
-returns-2 c = walk-missing _ _ _ _ (checks-sound (c .before .before .before .before .before .before)) (row-filled (c .before)) (c .if1 .taken)
+returns-2 c =
+    let sound = checks-sound (c .before .before .before .before .before .before) in
+    walk-missing _ _ _ sound (row-filled (c .before)) (c .if1 .taken)
 
 same-length-2 : tie.Need-same-length-2
 same-length-2 c = search needs
@@ -70,7 +96,8 @@ same-length-2 c = search needs
 returns-3 : tie.Need-returns-3
 returns-3 c =
     let told = c .before .before .before .before .before .before in
-    walk-there _ _ _ _ (checks-sound told) (row-filled (c .before)) (told .before .before .before .before .before .pre) (c .if1 .left)
+    let size = told .before .before .before .before .before .pre in
+    walk-there _ _ _ (checks-sound told) (row-filled (c .before)) size (c .if1 .left)
 
 pub check-reached-spec : {M : Type 1} → statement M
 check-reached-spec =

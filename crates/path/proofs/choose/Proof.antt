@@ -1,12 +1,18 @@
--- `path::choose` meets its contract: a list that the question about it finds sound passes, one that it refuses does not, and each return is one case of `Chosen`. What is
--- returned is the reference that was lent, or the part of the own list that ends where it begins. Assumes nothing.
+-- `path::choose` meets its contract: a list that the question about it finds sound passes, one that it
+-- refuses does not, and each return is one case of `Chosen`. What is returned is the reference that was lent,
+-- or the part of the own list that ends where it begins. Assumes nothing.
 use mathlib.Core.Path.{refl}
 use borrow.Author.Needs.{needs}
-use Rattle.network.proofs.Sections.{soundness}
-use Rattle.path.specs.Paths.{ListFaults, Passes, own-list, spare-list, neither}
-use Rattle.path.proofs.Listed.{none-passes, refused-fails}
+use Rattle.hall.specs.Floor.{Network, networkOf}
+use Rattle.path.specs.Paths.{Passes, own-list, spare-list, neither}
+use Rattle.path.proofs.Listed.{refused-fails}
+use Rattle.path.proofs.Agree.{sound-passes}
 use Rattle.path.proofs.choose.Statement.{statement}
 use Rattle.path.proofs.choose.Tie as tie
+
+-- the network that is asked about
+abbrev network : tie.Start → Network
+network c = networkOf (c .args .nodes) (c .args .lanes .now)
 
 judge-requires : tie.Need-judge-requires
 judge-requires c κs = search needs
@@ -16,16 +22,16 @@ enum-told c = search needs
 
 returns : tie.Need-returns
 returns c =
-    let args = c .before .before .before .before .before .before .args in
-    let none = soundness (ListFaults (args .nodes) (args .lanes .now) (args .start) (args .goal) (args .own .now)) (c .enum-told .given .1) (c .before .before .judge .ensures .judged) in
-    record { chosen = own-list (none-passes _ _ _ _ _ none) refl; lanes-kept = refl; own-kept = refl; spare-kept = refl }
+    let passes = sound-passes (c .enum-told .given .1) (c .before .before .judge .ensures) in
+    record { chosen = own-list passes refl; network-kept = refl; own-kept = refl; spare-kept = refl }
 
 enum-told-2 : tie.Need-enum-told-2
 enum-told-2 c = search needs
 
 -- the own list was refused
-own-fails : (c : tie.After-enum-told2) → let args = c .before .before .before .before .before .before .args in ¬ Passes (args .nodes) (args .lanes .now) (args .start) (args .goal) (args .own .now)
-own-fails c = refused-fails _ _ _ _ _ (c .enum-told2 .given .1) (c .before .before .judge .ensures .judged)
+own-fails : (c : tie.After-enum-told2) → let start = c .before .before .before .before .before .before in
+    ¬ Passes (network start) (start .args .start) (start .args .goal) (start .args .own .now)
+own-fails c = refused-fails _ _ _ _ (c .enum-told2 .given .1) (c .before .before .judge .ensures .judged)
 
 judge-requires-2 : tie.Need-judge-requires-2
 judge-requires-2 c κs = search needs
@@ -35,9 +41,13 @@ enum-told-3 c = search needs
 
 returns-2 : tie.Need-returns-2
 returns-2 c =
-    let args = c .before .before .before .before .before .before .before .before .before .args in
-    let none = soundness (ListFaults (args .nodes) (args .lanes .now) (args .start) (args .goal) (args .spare .now)) (c .enum-told3 .given .1) (c .before .before .judge2 .ensures .judged) in
-    record { chosen = spare-list (own-fails (c .before .before .before)) (none-passes _ _ _ _ _ none) refl; lanes-kept = refl; own-kept = refl; spare-kept = refl }
+    let passes = sound-passes (c .enum-told3 .given .1) (c .before .before .judge2 .ensures) in
+    record {
+      chosen = spare-list (own-fails (c .before .before .before)) passes refl;
+      network-kept = refl;
+      own-kept = refl;
+      spare-kept = refl;
+    }
 
 enum-told-4 : tie.Need-enum-told-4
 enum-told-4 c = search needs
@@ -48,9 +58,11 @@ slice-aggregate-result c = search needs
 returns-3 : tie.Need-returns-3
 returns-3 c =
     let judged = c .before .before .before in
+    let refused = c .before .enum-told4 .given .1 in
+    let spare-fails = refused-fails _ _ _ _ refused (judged .judge2 .ensures .judged) in
     record {
-      chosen = neither (own-fails (judged .before)) (refused-fails _ _ _ _ _ (c .before .enum-told4 .given .1) (judged .judge2 .ensures .judged)) refl refl;
-      lanes-kept = refl;
+      chosen = neither (own-fails (judged .before)) spare-fails refl refl;
+      network-kept = refl;
       own-kept = refl;
       spare-kept = refl;
     }

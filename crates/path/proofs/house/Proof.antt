@@ -1,23 +1,34 @@
--- `path::house` meets its contract: a short list is refused before anything else and stays as it came. Then the list is zeroed, so that a refusal of the move's checks leaves what it
--- should, and an accepted path is laid into zeros. Assumes nothing.
+-- `path::house` meets its contract: a short list is refused before anything else and stays as it came. Then
+-- the list is zeroed, so that a refusal of the move's checks leaves what it should, and an accepted path is
+-- laid into zeros. Assumes nothing.
 use mathlib.Core.Path.{refl}
-use Prim.Native.Nat.{_<_}
 use native.Mathlib.Omega.{arith}
 use borrow.Author.Needs.{needs}
-use lib.ListN.{length}
-use Rattle.hall.specs.Job.{oneMove}
-use Rattle.network.proofs.Sections.{soundness}
-use Rattle.path.specs.Paths.{MoveFaults}
-use Rattle.path.proofs.Questions.{nine-first}
-use Rattle.path.proofs.Housing.{house-refused, house-laid}
+use Rattle.hall.specs.Floor.{Network, networkOf}
+use Rattle.hall.specs.Stages.{Question}
+use Rattle.hall.specs.Questions.{moveQuestion}
+use Rattle.hall.proofs.Compose.{sound-none}
+use Rattle.path.proofs.Housing.{left-short, left-refused, left-accepted, house-laid}
 use Rattle.path.proofs.house.Statement.{statement}
 use Rattle.path.proofs.house.Tie as tie
 
+-- the network that is asked about
+abbrev network : tie.Start → Network
+network c = networkOf (c .args .nodes) (c .args .lanes .now)
+
+-- and what is asked of it behind 9
+abbrev question : tie.Start → Question
+question c = moveQuestion (network c) (c .args .start) (c .args .goal)
+
 returns : tie.Need-returns
 returns c =
-    let args = c .before .before .before .args in
-    let job = oneMove (args .nodes) (args .lanes .now) (args .start) (args .goal) in
-    record { given = (nine-first job (λ n. ⊥) (length (args .path .now) < 1024) ⊥ (c .if1 .taken), refl); lanes-kept = refl }
+    let start = c .before .before .before in
+    record {
+      given =
+          left-short (question start) (network start) (start .args .start) (start .args .goal)
+          (start .args .path .now) (c .if1 .taken);
+      network-kept = refl;
+    }
 
 zero-first-requires : tie.Need-zero-first-requires
 zero-first-requires c κs = search needs
@@ -36,11 +47,15 @@ same-length c = search needs
 
 returns-2 : tie.Need-returns-2
 returns-2 c =
-    let args = c .before .before .before .before .before .before .before .before .before .before .before .before .before .args in
     let zeros = c .before .before .before .before .before .before .before .before in
+    let start = zeros .before .before .before .before .before in
+    let reached = c .before .before .before .before .check-reached .ensures in
     record {
-      given = house-refused (args .nodes) (args .lanes .now) (args .start) (args .goal) (args .path .now) (zeros .before .before .if1 .left) (c .before .reached .given .1) (c .before .before .before .before .check-reached .ensures .judged) (zeros .zero-first .ensures);
-      lanes-kept = refl;
+      given =
+          left-refused (question start) (network start) (start .args .start) (start .args .goal)
+          (start .args .path .now) (zeros .before .before .if1 .left) (omega arith)
+          (c .before .reached .given .1) (reached .judged) (zeros .zero-first .ensures);
+      network-kept = refl;
     }
 
 enum-told : tie.Need-enum-told
@@ -51,21 +66,30 @@ slice-aggregate-lay c = omega (arith, c .before .before .before .before .check-r
 
 lay-requires : tie.Need-lay-requires
 lay-requires c κs =
-    let zeros = c .before .before .before .before .before .before .before .before .before in
-    (c .before .before .before .before .before .check-reached .ensures .downhill (c .before .before .enum-told .given .1), omega (arith, zeros .zero-first .kept .0, zeros .before .before .if1 .left))
+    let told = c .before .before in
+    let reached = told .before .before .before .check-reached .ensures in
+    let zeros = told .before .before .before .before .before .before .before in (
+      reached .downhill (told .enum-told .given .1),
+      omega (arith, zeros .zero-first .kept .0, zeros .before .before .if1 .left),
+    )
 
 same-length-2 : tie.Need-same-length-2
 same-length-2 c = search needs
 
 returns-3 : tie.Need-returns-3
 returns-3 c =
-    let args = c .before .before .before .before .before .before .before .before .before .before .before .before .before .before .before .before .before .args in
-    let zeros = c .before .before .before .before .before .before .before .before .before .before .before .before in
     let told = c .before .before .before .before .before in
-    let none = soundness (MoveFaults (args .nodes) (args .lanes .now) (args .start) (args .goal)) (told .enum-told .given .1) (told .before .before .before .check-reached .ensures .judged) in
+    let zeros = told .before .before .before .before .before .before .before in
+    let start = zeros .before .before .before .before .before in
+    let reached = told .before .before .before .check-reached .ensures in
+    let none = sound-none (question start) (told .enum-told .given .1) (reached .judged) in
     record {
-      given = house-laid (args .nodes) (args .lanes .now) (args .start) (args .goal) (args .path .now) (zeros .before .before .if1 .left) none (zeros .zero-first .ensures) (c .before .before .lay .ensures);
-      lanes-kept = refl;
+      given =
+          left-accepted (question start) (network start) (start .args .start) (start .args .goal)
+          (start .args .path .now) (zeros .before .before .if1 .left) none
+          (house-laid (start .args .path .now)
+          (zeros .zero-first .ensures) (c .before .before .lay .ensures));
+      network-kept = refl;
     }
 
 pub house-spec : {M : Type 1} → statement M

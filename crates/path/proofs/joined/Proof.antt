@@ -1,11 +1,13 @@
--- `path::joined` meets its contract. The invariant: i is even, and no lane before place i joins a and b. The measure is what is left of the lane list. Assumes nothing.
+-- `path::joined` meets its contract. The invariant: i is even, and no lane before place i joins a and b. The
+-- measure is what is left of the lane list. Assumes nothing.
 use mathlib.Core.Path.{_≡_, refl}
 use mathlib.Core.Logic.{inl, inr}
 use Prim.Native.Nat.{_-_, _%_, _≤_}
 use native.Mathlib.Omega.{arith}
 use borrow.Author.Needs.{needs}
 use lib.ListN.{length}
-use Rattle.path.proofs.LaneScan.{lane-at, lane-back-at, Passed, passed-none, passed-more, passed-all}
+use Rattle.hall.proofs.LaneList.{lane-at, lane-back-at}
+use Rattle.path.proofs.LaneScan.{Passed, passed-none, passed-more, passed-all}
 use Rattle.path.proofs.joined.Statement.{statement}
 use Rattle.path.proofs.joined.Tie as tie
 
@@ -41,14 +43,16 @@ returns c =
     let in-loop = c .before .before .before .before in
     let loop = in-loop .before in
     let args = loop .before .args in
-    lane-at (args .lanes .now) (loop .loop .i) (loop .loop .inv .2) (in-loop .loop-test .taken) (c .before .if1 .taken) (c .if2 .taken)
+    lane-at (args .lanes .now) (loop .loop .i) (loop .loop .inv .2) (in-loop .loop-test .taken)
+    (c .before .if1 .taken) (c .if2 .taken)
 
 returns-2 : tie.Need-returns-2 Inv-loop μ-loop
 returns-2 c =
     let in-loop = c .before .before .before .before .before in
     let loop = in-loop .before in
     let args = loop .before .args in
-    lane-back-at (args .lanes .now) (loop .loop .i) (loop .loop .inv .2) (in-loop .loop-test .taken) (c .before .if3 .taken) (c .if4 .taken)
+    lane-back-at (args .lanes .now) (loop .loop .i) (loop .loop .inv .2) (in-loop .loop-test .taken)
+    (c .before .if3 .taken) (c .if4 .taken)
 
 add-i : tie.Need-add-i Inv-loop μ-loop
 add-i c = search needs
@@ -72,7 +76,8 @@ loop-again c =
 returns-3 : tie.Need-returns-3 Inv-loop μ-loop
 returns-3 c =
     let args = c .before .before .args in
-    passed-all (args .lanes .now) (args .a) (args .b) (c .before .loop .i) (c .before .loop .inv .3) (c .loop-test .left)
+    let loop = c .before .loop in
+    passed-all (args .lanes .now) (args .a) (args .b) (loop .i) (loop .inv .3) (c .loop-test .left)
 
 pub joined-spec : {M : Type 1} → statement M
 joined-spec =

@@ -1,30 +1,39 @@
--- `path::judge` meets its contract: the checks of the move first, and a refusal of theirs is the first fault. Then the list's length is held to the distance that the row has
--- for the start, and its nodes to the lanes: both hold exactly if the list is a shortest path. Assumes nothing.
+-- `path::judge` meets its contract: the checks of the move first, and a refusal of theirs is the first fault.
+-- Then the list's length is held to the distance that the row has for the start, and its nodes to the lanes:
+-- both hold exactly if the list is a shortest path. Assumes nothing.
 use mathlib.Core.Path.{refl}
+use mathlib.Core.List.{[], _∷_}
 use native.Mathlib.Omega.{arith}
 use borrow.Author.Needs.{needs}
-use Rattle.hall.specs.Job.{oneMove}
-use Rattle.hall.specs.Floor.{floorOf}
-use Rattle.hall.specs.Path.{ShortestPath}
-use Rattle.hall.specs.Refusals.{None}
-use Rattle.network.proofs.Sections.{refusal, soundness}
-use Rattle.network.proofs.Places.{told, told-not}
-use Rattle.path.specs.Paths.{MoveFaults}
+use Rattle.hall.specs.Floor.{Network, networkOf}
+use Rattle.hall.specs.Stages.{None}
+use Rattle.hall.specs.Questions.{unfit, moveQuestion}
+use Rattle.hall.proofs.Answers.{affirmed, denied}
+use Rattle.hall.proofs.Compose.{judged-stop, sound-none}
+use Rattle.path.specs.Paths.{Unfit}
 use Rattle.path.specs.Steps.{Downhill}
-use Rattle.path.proofs.Questions.{others-first}
 use Rattle.path.proofs.Downhill.{start-small}
 use Rattle.path.proofs.Listed.{list-passes, list-unfit}
 use Rattle.path.proofs.judge.Statement.{statement}
 use Rattle.path.proofs.judge.Tie as tie
 
--- the network and the move have no fault, and the row is downhill
-move-sound : (c : tie.After-enum-told2) → let args = c .before .before .before .before .before .before .before .args in None (MoveFaults (args .nodes) (args .lanes .now) (args .start) (args .goal))
-move-sound c =
-    let args = c .before .before .before .before .before .before .before .args in
-    soundness (MoveFaults (args .nodes) (args .lanes .now) (args .start) (args .goal)) (c .enum-told2 .given .1) (c .before .before .before .check-reached .ensures .judged)
+-- the network that is asked about
+abbrev network : tie.Start → Network
+network c = networkOf (c .args .nodes) (c .args .lanes .now)
 
-row-downhill : (c : tie.After-enum-told2) → let args = c .before .before .before .before .before .before .before .args in
-    Downhill (args .nodes) (args .lanes .now) (args .start) (args .goal) (c .before .before .before .check-reached .last .1 .1 .1 .1 .0)
+-- it and the move have no fault, and the row is downhill
+move-sound : (c : tie.After-enum-told2) →
+    let start = c .before .before .before .before .before .before .before in
+    None (moveQuestion (network start) (start .args .start) (start .args .goal))
+move-sound c =
+    let start = c .before .before .before .before .before .before .before in
+    sound-none (moveQuestion (network start) (start .args .start) (start .args .goal))
+    (c .enum-told2 .given .1) (c .before .before .before .check-reached .ensures .judged)
+
+row-downhill : (c : tie.After-enum-told2) →
+    let start = c .before .before .before .before .before .before .before in
+    Downhill (network start) (start .args .start) (start .args .goal)
+    (c .before .before .before .check-reached .last .1 .1 .1 .1 .0)
 row-downhill c = c .before .before .before .check-reached .ensures .downhill (c .enum-told2 .given .1)
 
 slice-aggregate-check-reached : tie.Need-slice-aggregate-check-reached
@@ -38,11 +47,14 @@ enum-told c = search needs
 
 returns : tie.Need-returns
 returns c =
-    let args = c .before .before .before .before .before .before .before .args in
-    let unfit = ¬ ShortestPath (floorOf (args .nodes) (args .lanes .now)) (args .start) (args .goal) (args .list .now) in
+    let start = c .before .before .before .before .before .before .before in
+    let args = start .args in
     record {
-      judged = refusal (others-first (oneMove (args .nodes) (args .lanes .now) (args .start) (args .goal)) (λ n. ⊥) unfit) (c .enum-told .given .1) (c .before .before .before .check-reached .ensures .judged);
-      lanes-kept = refl;
+      judged =
+          judged-stop (moveQuestion (network start) (args .start) (args .goal))
+          (unfit (Unfit (network start) (args .start) (args .goal) (args .list .now)) ∷ [])
+          (c .enum-told .given .1) (c .before .before .before .check-reached .ensures .judged);
+      network-kept = refl;
       list-kept = refl;
     }
 
@@ -67,25 +79,33 @@ walks-requires c κs = search needs
 returns-2 : tie.Need-returns-2
 returns-2 c =
     let sound = c .before .before .before in
+    let walks = affirmed _ (c .if2 .taken) (c .before .walks .ensures) in
     record {
-      judged = list-passes _ _ _ _ _ (move-sound sound) (row-downhill sound) (omega (arith, c .before .before .if1 .taken)) (told (c .if2 .taken) (c .before .walks .ensures));
-      lanes-kept = refl;
+      judged =
+          list-passes _ _ _ _ (move-sound sound) (row-downhill sound)
+          (omega (arith, c .before .before .if1 .taken)) walks;
+      network-kept = refl;
       list-kept = refl;
     }
 
 returns-3 : tie.Need-returns-3
 returns-3 c =
     let sound = c .before .before .before in
+    let strays = denied _ (c .if2 .left) (c .before .walks .ensures) in
     record {
-      judged = list-unfit _ _ _ _ _ (move-sound sound) (row-downhill sound) (λ h. told-not (c .if2 .left) (c .before .walks .ensures) (h .1));
-      lanes-kept = refl;
+      judged = list-unfit _ _ _ _ (move-sound sound) (row-downhill sound) (λ h. strays (h .1));
+      network-kept = refl;
       list-kept = refl;
     }
 
 returns-4 : tie.Need-returns-4
 returns-4 c =
     let sound = c .before in
-    record { judged = list-unfit _ _ _ _ _ (move-sound sound) (row-downhill sound) (λ h. c .if1 .left (h .0)); lanes-kept = refl; list-kept = refl }
+    record {
+      judged = list-unfit _ _ _ _ (move-sound sound) (row-downhill sound) (λ h. c .if1 .left (h .0));
+      network-kept = refl;
+      list-kept = refl;
+    }
 
 pub judge-spec : {M : Type 1} → statement M
 judge-spec =

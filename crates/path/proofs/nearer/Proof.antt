@@ -1,4 +1,5 @@
--- `path::nearer` meets its contract: each way out is one case of `Nearer`, by the tests that led there. Assumes nothing.
+-- `path::nearer` meets its contract: each way out is one case of `Nearer`, by the tests that led there.
+-- Assumes nothing.
 use mathlib.Core.Path.{refl}
 use native.Mathlib.Omega.{arith}
 use borrow.Author.Needs.{needs}
@@ -27,7 +28,8 @@ returns-4 c = kept (λ e l w. omega (arith, c .if4 .taken)) refl
 returns-5 : tie.Need-returns-5
 returns-5 c =
     let tests = c .before .before .before in
-    taken (tests .before .if1 .left) (omega (arith, tests .if2 .left)) (c .before .if3 .left) (omega (arith, c .if4 .left)) refl
+    taken (tests .before .if1 .left) (omega (arith, tests .if2 .left)) (c .before .if3 .left)
+    (omega (arith, c .if4 .left)) refl
 
 pub nearer-spec : {M : Type 1} → statement M
 nearer-spec =

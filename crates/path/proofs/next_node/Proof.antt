@@ -1,15 +1,17 @@
--- `path::next_node` meets its contract. The invariant is `Seeking`: the lanes before place i are looked at in both directions. The measure is what is left of the lane
--- list. Assumes nothing.
+-- `path::next_node` meets its contract. The invariant is `Seeking`: the lanes before place i are looked at in
+-- both directions. The measure is what is left of the lane list. Assumes nothing.
 use mathlib.Core.Path.{_≡_, refl}
 use Prim.Native.Nat.{_-_, _≤_}
 use native.Mathlib.Omega.{arith}
 use lib.ListN.{length}
+use Rattle.hall.specs.Floor.{networkOf}
 use Rattle.path.proofs.NextNode.{Seeking, seeking-none, seeking-lane, seeking-all}
 use Rattle.path.proofs.next_node.Statement.{statement}
 use Rattle.path.proofs.next_node.Tie as tie
 
 abbrev Inv-loop : tie.InvT-loop
-Inv-loop nodes lanes row u wanted count best₀ i₀ best i = (count ≡ length lanes) × (i ≤ count) × Seeking nodes lanes row u wanted i best
+Inv-loop nodes lanes row u wanted count best₀ i₀ best i =
+    (count ≡ length lanes) × (i ≤ count) × Seeking (networkOf nodes lanes) row u wanted i best
 
 abbrev μ-loop : tie.MeasureT-loop
 μ-loop nodes lanes row u wanted count best₀ i₀ best i = count - i
@@ -17,7 +19,8 @@ abbrev μ-loop : tie.MeasureT-loop
 loop-holds : tie.Need-loop-holds Inv-loop μ-loop
 loop-holds c =
     let args = c .before .before .args in
-    (refl, omega arith, seeking-none (args .nodes) (args .lanes .now) (args .row .now) (args .u) (args .wanted))
+    let network = networkOf (args .nodes) (args .lanes .now) in
+    (refl, omega arith, seeking-none network (args .row .now) (args .u) (args .wanted))
 
 add-loop : tie.Need-add-loop Inv-loop μ-loop
 add-loop c = omega arith
@@ -52,7 +55,9 @@ loop-less c = omega arith
 loop-again : tie.Need-loop-again Inv-loop μ-loop
 loop-again c =
     let turn = c .before .before .before .before in
-    (refl, omega arith, seeking-lane (turn .loop-test .taken) (turn .before .loop .inv .2) (c .before .nearer .ensures) (c .nearer2 .ensures))
+    let seeking = turn .before .loop .inv .2 in
+    let forth = c .before .nearer .ensures in
+    (refl, omega arith, seeking-lane (turn .loop-test .taken) seeking forth (c .nearer2 .ensures))
 
 returns : tie.Need-returns Inv-loop μ-loop
 returns c = seeking-all (c .before .loop .inv .2) (c .loop-test .left)

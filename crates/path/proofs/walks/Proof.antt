@@ -1,17 +1,18 @@
--- `path::walks` meets its contract. The invariant is `Walking`: the list begins and ends where it should, and its nodes before place k are joined to the next. The measure is
--- what is left of the list. Assumes nothing.
+-- `path::walks` meets its contract. The invariant is `Walking`: the list begins and ends where it should, and
+-- its nodes before place k are joined to the next. The measure is what is left of the list. Assumes nothing.
 use mathlib.Core.Path.{_≡_}
 use Prim.Native.Nat.{_+_, _-_, _≤_}
 use native.Mathlib.Omega.{arith}
 use borrow.Author.Needs.{needs}
 use lib.ListN.{length}
-use Rattle.network.proofs.Places.{told, told-not}
+use Rattle.hall.proofs.Answers.{affirmed, denied}
 use Rattle.path.proofs.Listed.{Walking, walking-none, walking-lane, walking-all}
 use Rattle.path.proofs.walks.Statement.{statement}
 use Rattle.path.proofs.walks.Tie as tie
 
 abbrev Inv-loop : tie.InvT-loop
-Inv-loop lanes start goal list count last k₀ k = (last + 1 ≡ length list) × (k ≤ last) × Walking lanes start goal list k
+Inv-loop lanes start goal list count last k₀ k =
+    (last + 1 ≡ length list) × (k ≤ last) × Walking lanes start goal list k
 
 abbrev μ-loop : tie.MeasureT-loop
 μ-loop lanes start goal list count last k₀ k = last - k
@@ -38,7 +39,11 @@ returns-3 : tie.Need-returns-3 Inv-loop μ-loop
 returns-3 c = λ w. c .if3 .taken (w .ends)
 
 loop-holds : tie.Need-loop-holds Inv-loop μ-loop
-loop-holds c = (omega (arith, c .before .before .before .before .if1 .left), omega arith, walking-none _ (c .before .before .if2 .left) (c .if3 .left))
+loop-holds c = (
+  omega (arith, c .before .before .before .before .if1 .left),
+  omega arith,
+  walking-none _ (c .before .before .if2 .left) (c .if3 .left),
+)
 
 mul-here : tie.Need-mul-here Inv-loop μ-loop
 mul-here c = omega arith
@@ -68,16 +73,20 @@ loop-again : tie.Need-loop-again Inv-loop μ-loop
 loop-again c =
     let turn = c .before .before .before .before in
     let inv = turn .before .loop .inv in
-    (inv .0, omega (arith, turn .loop-test .taken), walking-lane (inv .2) (told (c .if4 .taken) (c .before .joined .ensures)))
+    let lane = affirmed _ (c .if4 .taken) (c .before .joined .ensures) in
+    (inv .0, omega (arith, turn .loop-test .taken), walking-lane (inv .2) lane)
 
 returns-4 : tie.Need-returns-4 Inv-loop μ-loop
 returns-4 c =
     let turn = c .before .before .before .before in
     let at = turn .before .loop in
-    λ w. told-not (c .if4 .left) (c .before .joined .ensures) (w .joins (at .k) (omega (arith, at .inv .0, turn .loop-test .taken)))
+    let none = denied _ (c .if4 .left) (c .before .joined .ensures) in
+    λ w. none (w .joins (at .k) (omega (arith, at .inv .0, turn .loop-test .taken)))
 
 returns-5 : tie.Need-returns-5 Inv-loop μ-loop
-returns-5 c = let inv = c .before .loop .inv in walking-all (inv .2) (omega (arith, inv .0, inv .1, c .loop-test .left))
+returns-5 c =
+    let inv = c .before .loop .inv in
+    walking-all (inv .2) (omega (arith, inv .0, inv .1, c .loop-test .left))
 
 pub walks-spec : {M : Type 1} → statement M
 walks-spec =

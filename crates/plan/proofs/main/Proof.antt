@@ -1,4 +1,5 @@
--- `plan::main` is safe and ends: what was read is within the text's bytes, and the answer within those that it was lent. Assumes nothing.
+-- `plan::main` is safe and ends: what was read is within the text's bytes, and the answer within those that
+-- it was lent. Assumes nothing.
 use native.Mathlib.Omega.{arith}
 use lib.ListN.{length-take}
 use Rattle.plan.proofs.Within.{answer-within}

@@ -1,17 +1,19 @@
--- `planner::plan_cleared` meets its contract: the first of the checks 2 to 7 is the first fault, since no list is short, and leaves the lists zero as they
--- are; where the checks find nothing, the rest is planned. There is no loop. Assumes nothing.
+-- `planner::plan_cleared` meets its contract: the first of the checks 2 to 7 is the first fault, since no
+-- list is short, and leaves the lists zero as they are; where the checks find nothing, the rest is planned.
+-- There is no loop. Assumes nothing.
 use borrow.Author.Needs.{needs}
-use Rattle.hall.specs.Job.{Numbers}
-use Rattle.hall.specs.Refusals.{Checks}
-use Rattle.network.proofs.Sections.{soundness}
-use Rattle.planner.specs.Planning.{job, Lent, lent}
+use Rattle.hall.specs.Floor.{networkOf}
+use Rattle.hall.specs.Job.{Numbers, jobOf}
+use Rattle.hall.specs.Questions.{checksQuestion}
+use Rattle.hall.proofs.Compose.{sound-none}
+use Rattle.planner.specs.Planning.{Lent, lent}
 use Rattle.planner.proofs.Clearing.{checked-refuses}
 use Rattle.planner.proofs.plan_cleared.Statement.{statement}
 use Rattle.planner.proofs.plan_cleared.Tie as tie
 
 -- the job, and the lists as they came
 abbrev job-of : tie.Start → Numbers
-job-of s = job (s .args .nodes) (s .args .lanes .now) (s .args .moves .now) (s .args .order .now)
+job-of s = jobOf (networkOf (s .args .nodes) (s .args .lanes .now)) (s .args .moves .now) (s .args .order .now)
 
 abbrev lent-of : tie.Start → Lent
 lent-of s = lent (s .args .table .now) (s .args .distances .now) (s .args .ticks .now)
@@ -34,7 +36,7 @@ plan-sound-requires : tie.Need-plan-sound-requires
 plan-sound-requires c κs =
     let told = c .before .before .before in
     let s = told .before .before .before .before .before .before .before .before .before in
-    (s .pre, soundness (Checks (job-of s)) (told .enum-told .given .1) (told .before .before .check-job .ensures))
+    (s .pre, sound-none (checksQuestion (job-of s)) (told .enum-told .given .1) (told .before .before .check-job .ensures))
 
 same-length : tie.Need-same-length
 same-length c = search needs

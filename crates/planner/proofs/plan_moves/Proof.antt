@@ -1,18 +1,20 @@
--- `planner::plan_moves` meets its contract: a list that is short is the first fault, and nothing is touched; otherwise the lists are cleared, and what
--- planning leaves of cleared lists it leaves of those that came (`over-cleared`). There is no loop. Assumes nothing.
+-- `planner::plan_moves` meets its contract: a list that is short is the first fault, and nothing is touched;
+-- otherwise the lists are cleared, and what planning leaves of cleared lists it leaves of those that came
+-- (`over-cleared`). There is no loop. Assumes nothing.
 use borrow.Author.Needs.{needs}
 use mathlib.Core.Path.{refl}
-use Rattle.hall.specs.Job.{Numbers}
+use Rattle.hall.specs.Floor.{networkOf}
+use Rattle.hall.specs.Job.{Numbers, jobOf}
 use Rattle.hall.proofs.Answers.{affirmed, denied}
-use Rattle.planner.specs.Planning.{job, Lent, lent}
-use Rattle.planner.proofs.Faults.{ShortOf, short-first}
+use Rattle.planner.specs.Planning.{saidPlanned, Lent, lent, ShortOf}
+use Rattle.planner.proofs.Faults.{short-first}
 use Rattle.planner.proofs.Clearing.{is-cleared, over-cleared, roomy-ticks}
 use Rattle.planner.proofs.plan_moves.Statement.{statement}
 use Rattle.planner.proofs.plan_moves.Tie as tie
 
 -- the job, and the lists as they came
 abbrev job-of : tie.Start → Numbers
-job-of s = job (s .args .nodes) (s .args .lanes .now) (s .args .moves .now) (s .args .order .now)
+job-of s = jobOf (networkOf (s .args .nodes) (s .args .lanes .now)) (s .args .moves .now) (s .args .order .now)
 
 abbrev lent-of : tie.Start → Lent
 lent-of s = lent (s .args .table .now) (s .args .distances .now) (s .args .ticks .now)
@@ -76,7 +78,7 @@ returns-2 c =
     let tested = ready .before .before .before .before .before .before .before .before .before .before in
     let s = tested .before .before .before .before .before .before .before .before in
     over-cleared (lent-of s) (cleared-lists ready) (roomy tested) (ready .before .before .before .before .before .before .before .before .zero-first .ensures) (ready .before .before .before .before .zero-first2 .ensures) (ready .zero-ticks .ensures) (job-of s)
-    (lent (planned .last .1 .1 .1 .1 .0) (planned .last .1 .1 .1 .1 .1 .0) (planned .last .1 .1 .1 .1 .1 .1 .0)) (planned .result) (planned .ensures)
+    (lent (planned .last .1 .1 .1 .1 .0) (planned .last .1 .1 .1 .1 .1 .0) (planned .last .1 .1 .1 .1 .1 .1 .0)) (saidPlanned (planned .result)) (planned .ensures)
 
 pub plan-moves-spec : {M : Type 1} → statement M
 plan-moves-spec =

@@ -1,5 +1,5 @@
--- `planner::time_all` meets its contract: the own distances are copied, and what is served has its start ticks, so the arm without a cost is never taken.
--- There is no loop. Assumes nothing.
+-- `planner::time_all` meets its contract: the own distances are copied, and what is served has its start
+-- ticks, so the arm without a cost is never taken. There is no loop. Assumes nothing.
 use borrow.Author.Needs.{needs}
 use Rattle.planner.proofs.Outcome.{is-given, never-unserved}
 use Rattle.planner.proofs.time_all.Statement.{statement}

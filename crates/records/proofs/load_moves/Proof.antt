@@ -1,7 +1,8 @@
--- `load_moves` meets its contract: a walk of its MIR, by hand. How many records have room is what `pairs_in` promises. Each reference
--- stays whole, beside its token, and one element is taken out for each access (`Walk.antt`), so the loop's invariant names the list
--- that `moves` has once i records are loaded (`Lists.antt`'s `loadTo`), and nothing that is open. The loop counts to the number of
--- pairs, which is its measure. Assumes nothing.
+-- `load_moves` meets its contract: a walk of its MIR, by hand. How many records have room is what `pairs_in`
+-- promises. Each reference stays whole, beside its token, and one element is taken out for each access
+-- (`Walk.antt`), so the loop's invariant names the list that `moves` has once i records are loaded
+-- (`Lists.antt`'s `loadTo`), and nothing that is open. The loop counts to the number of pairs, which is its
+-- measure. Assumes nothing.
 use mathlib.Core.Path.{_≡_, refl, ap}
 use Prim.Native.Nat.{ℕ, suc, _+_, _*_, _/_, _<_, _≤_, _^_, min}
 use native.Mathlib.Nat.{min-le-left, min-le-right}

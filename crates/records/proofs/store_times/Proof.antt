@@ -1,7 +1,7 @@
--- `store_times` meets its contract: a walk of its MIR, by hand. How many records have both times is what `times_in` promises. Each
--- reference stays whole, beside its token, and one element is taken out for each access (`Walk.antt`), so the loop's invariant names
--- the records once i of them are timed (`timed i`), and nothing that is open. The loop counts to that number, which is its measure.
--- Assumes nothing.
+-- `store_times` meets its contract: a walk of its MIR, by hand. How many records have both times is what
+-- `times_in` promises. Each reference stays whole, beside its token, and one element is taken out for each
+-- access (`Walk.antt`), so the loop's invariant names the records once i of them are timed (`timed i`), and
+-- nothing that is open. The loop counts to that number, which is its measure. Assumes nothing.
 use mathlib.Core.Path.{_≡_, refl, ap}
 use Prim.Native.Nat.{ℕ, suc, _+_, _*_, _<_, _≤_, _^_, min}
 use native.Mathlib.Nat.{min-le-left, min-le-right}

@@ -1,5 +1,6 @@
--- `report::answer` meets its contract: the tables that are lent to reading have their least lengths, so counts mean that the numbers in front of them are a job
--- without faults 2 to 7, whose answer is handed on, and a refusal is that of the text's reading, and is printed. Assumes nothing.
+-- `report::answer` meets its contract: the tables that are lent to reading have their least lengths, so
+-- counts mean that the numbers in front of them are a job without faults 2 to 7, whose answer is handed on,
+-- and a refusal is that of the text's reading, and is printed. Assumes nothing.
 use borrow.Author.Needs.{needs}
 use mathlib.Core.Path.{sym}
 use Prim.Native.Nat.{_*_, _≤_}
@@ -33,16 +34,20 @@ job-of : (c : tie.After-struct-known) →
 job-of c =
     let matched = c .before .before in
     let called = matched .before .before .before .before .before in
-    job-read _ _ _ _ (matched .read .given .1) (called .read-numbers .ensures) (record { for-lanes = search needs; for-moves = search needs; for-order = search needs })
+    job-read _ _ _ _ (record { for-lanes = search needs; for-moves = search needs; for-order = search needs })
+    (matched .read .given .1) (called .read-numbers .ensures)
 
 -- the tables are as long as they came
-long-lanes : (c : tie.After-struct-known) → 2 * c .before .before .read .given .0 .0 .lanes ≤ length (c .before .before .before .before .before .before .before .read-numbers .last .1 .0)
+long-lanes : (c : tie.After-struct-known) →
+    2 * c .before .before .read .given .0 .0 .lanes ≤ length (c .before .before .before .before .before .before .before .read-numbers .last .1 .0)
 long-lanes c = omega (arith, job-of c .few-lanes, c .before .before .before .before .before .before .before .read-numbers .kept .1 .0)
 
-long-moves : (c : tie.After-struct-known) → 2 * c .before .before .read .given .0 .0 .carriers ≤ length (c .before .before .before .before .before .before .before .read-numbers .last .1 .1 .1 .0)
+long-moves : (c : tie.After-struct-known) →
+    2 * c .before .before .read .given .0 .0 .carriers ≤ length (c .before .before .before .before .before .before .before .read-numbers .last .1 .1 .1 .0)
 long-moves c = omega (arith, job-of c .few-carriers, c .before .before .before .before .before .before .before .read-numbers .kept .1 .1 .1 .0)
 
-long-order : (c : tie.After-struct-known) → c .before .before .read .given .0 .0 .carriers ≤ length (c .before .before .before .before .before .before .before .read-numbers .last .1 .1 .1 .1 .0)
+long-order : (c : tie.After-struct-known) →
+    c .before .before .read .given .0 .0 .carriers ≤ length (c .before .before .before .before .before .before .before .read-numbers .last .1 .1 .1 .1 .0)
 long-order c = omega (arith, job-of c .few-carriers, c .before .before .before .before .before .before .before .read-numbers .kept .1 .1 .1 .1 .0)
 
 mul-numbers : tie.Need-mul-numbers
@@ -98,8 +103,10 @@ returns-2 c =
     let numbered = printed .before .before in
     let matched = numbered .before .before in
     let called = matched .before .before .before .before .before in
-    let read = refusal-read _ _ _ _ (matched .read2 .given .1) (called .read-numbers .ensures) (record { for-lanes = search needs; for-moves = search needs; for-order = search needs }) in
-    refused-answers read (rw (numbered .number .ensures) at (printed .print-refused .ensures))
+    refused-answers
+    (refusal-read _ _ _ _ (record { for-lanes = search needs; for-moves = search needs; for-order = search needs })
+    (matched .read2 .given .1) (called .read-numbers .ensures))
+    (rw (numbered .number .ensures) at (printed .print-refused .ensures))
 
 pub answer-spec : {M : Type 1} → statement M
 answer-spec =

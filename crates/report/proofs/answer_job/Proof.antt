@@ -1,8 +1,9 @@
--- `report::answer_job` meets its contract: the lists that are lent to planning have their least lengths, so what planning promises is the answer for the
--- job, and printing writes it. Assumes nothing.
+-- `report::answer_job` meets its contract: the lists that are lent to planning have their least lengths, so
+-- what planning promises is the answer for the job, and printing writes it. Assumes nothing.
 use borrow.Author.Needs.{needs}
 use native.Mathlib.Omega.{arith}
-use Rattle.report.proofs.JobAnswers.{refused-carrier, refusal-answers, cost-answers, planned-accepted, planned-refused}
+use Rattle.report.proofs.JobAnswers.{refused-carrier, refusal-answers, cost-answers}
+use Rattle.report.proofs.JobAnswers.{planned-accepted, planned-refused}
 use Rattle.report.proofs.answer_job.Statement.{statement}
 use Rattle.report.proofs.answer_job.Tie as tie
 
@@ -42,7 +43,7 @@ add-line c =
     let called = matched .before .before .before .before .before in
     let start = called .before .before .before .before .before .before .before .before in
     let refuses = planned-refused (matched .planned2 .given .1) (called .plan-moves .ensures) in
-    let few = refused-carrier (start .pre) refuses (record { table = search needs; distances = search needs; ticks = search needs }) in
+    let few = refused-carrier (start .pre) (record { table = search needs; distances = search needs; ticks = search needs }) refuses in
     omega (arith, few, start .good)
 
 number-requires : tie.Need-number-requires
@@ -61,7 +62,9 @@ returns c =
     let called = matched .before .before .before .before .before in
     let start = called .before .before .before .before .before .before .before .before in
     let accepted = planned-accepted (matched .planned .given .1) (called .plan-moves .ensures) in
-    cost-answers (start .pre) accepted (record { table = search needs; distances = search needs; ticks = search needs }) (printed .print-plan .ensures)
+    cost-answers (start .pre)
+    (record { table = search needs; distances = search needs; ticks = search needs })
+    accepted (printed .print-plan .ensures)
 
 same-length-2 : tie.Need-same-length-2
 same-length-2 c = search needs
@@ -74,8 +77,9 @@ returns-2 c =
     let called = matched .before .before .before .before .before in
     let start = called .before .before .before .before .before .before .before .before in
     let refuses = planned-refused (matched .planned2 .given .1) (called .plan-moves .ensures) in
-    refusal-answers (start .pre) refuses (record { table = search needs; distances = search needs; ticks = search needs })
-    (rw (numbered .number .ensures) at (printed .print-refused .ensures))
+    refusal-answers (start .pre)
+    (record { table = search needs; distances = search needs; ticks = search needs })
+    refuses (rw (numbered .number .ensures) at (printed .print-refused .ensures))
 
 pub answer-job-spec : {M : Type 1} → statement M
 answer-job-spec =

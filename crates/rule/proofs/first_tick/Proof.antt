@@ -1,6 +1,7 @@
--- `rule::first_tick` meets its contract. The invariant: no tick that all permit was passed on the way to the tick, and `next` is where a pass over
--- all held carriers moves it. When a pass moves nothing, all permit the tick. Each other pass leaves the stretch of a carrier behind, so the number
--- of carriers whose stretch ends after the tick falls: it is the measure, and at most the number of held carriers (`Work`). Assumes nothing.
+-- `rule::first_tick` meets its contract. The invariant: no tick that all permit was passed on the way to the
+-- tick, and `next` is where a pass over all held carriers moves it. When a pass moves nothing, all permit the
+-- tick. Each other pass leaves the stretch of a carrier behind, so the number of carriers whose stretch ends
+-- after the tick falls: it is the measure, and at most the number of held carriers (`Work`). Assumes nothing.
 use Prim.Native.Nat.{_/_}
 use native.Mathlib.Omega.{arith}
 use borrow.Author.Needs.{needs}
@@ -12,7 +13,8 @@ use Rattle.rule.proofs.first_tick.Statement.{statement}
 use Rattle.rule.proofs.first_tick.Tie as tie
 
 abbrev Inv-loop : tie.InvT-loop
-Inv-loop held from tick₀ next₀ tick next = Reached from (PermittedByHeld held (length held / 7)) tick × Swept held tick next
+Inv-loop held from tick₀ next₀ tick next =
+    Reached from (PermittedByHeld held (length held / 7)) tick × Swept held tick next
 
 abbrev μ-loop : tie.MeasureT-loop
 μ-loop held from tick₀ next₀ tick next = waiting held tick
@@ -23,7 +25,8 @@ sweep-requires c κs = search needs
 loop-holds : tie.Need-loop-holds Inv-loop μ-loop
 loop-holds c =
     let args = c .before .before .args in
-    let held = args .held .now in (reached-here (args .from) (PermittedByHeld held (length held / 7)), c .sweep .ensures)
+    let held = args .held .now in
+    (reached-here (args .from) (PermittedByHeld held (length held / 7)), c .sweep .ensures)
 
 sweep-requires-2 : tie.Need-sweep-requires-2 Inv-loop μ-loop
 sweep-requires-2 c κs = omega arith
@@ -31,16 +34,19 @@ sweep-requires-2 c κs = omega arith
 loop-less : tie.Need-loop-less Inv-loop μ-loop
 loop-less c =
     let loop = c .before .before in
-    waiting-falls (loop .before .before .before .args .held .now) (loop .loop .tick) (loop .loop .next) (omega arith) (loop .loop .inv .1 .passed (omega arith))
+    waiting-falls (loop .before .before .before .args .held .now) (loop .loop .tick) (loop .loop .next)
+    (omega arith) (loop .loop .inv .1 .passed (omega arith))
 
 loop-again : tie.Need-loop-again Inv-loop μ-loop
-loop-again c = let inv = c .before .before .loop .inv in (reached-further (inv .0) (inv .1 .reached), c .sweep2 .ensures)
+loop-again c =
+    let inv = c .before .before .loop .inv in (reached-further (inv .0) (inv .1 .reached), c .sweep2 .ensures)
 
 returns : tie.Need-returns Inv-loop μ-loop
 returns c =
     let args = c .before .before .before .before .args in
     let loop = c .before .loop in
-    swept-smallest (args .held .now) (args .from) (loop .tick) (loop .next) (loop .inv .0) (loop .inv .1) (omega arith)
+    swept-smallest (args .held .now) (args .from) (loop .tick) (loop .next)
+    (loop .inv .0) (loop .inv .1) (omega arith)
 
 pub first-tick-spec : {M : Type 1} → statement M
 first-tick-spec =

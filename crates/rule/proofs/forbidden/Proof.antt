@@ -1,6 +1,7 @@
--- `rule::forbidden` meets its contract. The signed rule is the rule with additions only (`forbidden-iff`), and the tests are the parts of the latter, one after
--- the other: a test that fails excludes the part, and where the last ones are reached all parts hold but the exception. With the gap at 0 and the parity
--- odd, the exception holds exactly at the two ends. There is no loop. Assumes nothing.
+-- `rule::forbidden` meets its contract. The signed rule is the rule with additions only (`forbidden-iff`),
+-- and the tests are the parts of the latter, one after the other: a test that fails excludes the part, and
+-- where the last ones are reached all parts hold but the exception. With the gap at 0 and the parity odd, the
+-- exception holds exactly at the two ends (rule 4.8). There is no loop. Assumes nothing.
 use mathlib.Core.Logic.{_↔_, inl, inr}
 use native.Mathlib.Omega.{arith}
 use Rattle.hall.specs.Rule.{Pair, pair6, Forbidden, Forbidden⁺}
@@ -15,7 +16,9 @@ abbrev pair : tie.Start → Pair
 pair s = let a = s .args in pair6 (a .ss) (a .gg) (a .ii) (a .jj) (a .ij) (a .ji)
 
 -- the two forms of the rule at the arguments
-same : (s : tie.Start) → Forbidden (pair s) (pos (s .args .tj) -ℤ pos (s .args .ti)) ↔ Forbidden⁺ (pair s) (s .args .ti) (s .args .tj)
+same : (s : tie.Start)
+    → Forbidden (pair s) (pos (s .args .tj) -ℤ pos (s .args .ti))
+    ↔ Forbidden⁺ (pair s) (s .args .ti) (s .args .tj)
 same s = forbidden-iff (pair s) (s .args .ti) (s .args .tj)
 
 add-starts-goals : tie.Need-add-starts-goals
@@ -42,6 +45,10 @@ add-parity c = search needs
 add-parity-2 : tie.Need-add-parity-2
 add-parity-2 c = search needs
 
+-- the mark for "no walk" fits
+cast-if1 : tie.Need-cast-if1
+cast-if1 c = search needs
+
 returns : tie.Need-returns
 returns c = search needs
 
@@ -56,11 +63,23 @@ returns-4 c = λ f. let g = same (c .before .before .before .before) .0 f in ome
 
 returns-5 : tie.Need-returns-5
 returns-5 c = same (c .before .before .before .before .before) .1
-    (record { joined = omega arith; gap-not-above = omega arith; low = omega arith; high = omega arith; not-excepted = λ x. omega arith })
+    (record {
+      joined = omega arith;
+      gap-not-above = omega arith;
+      low = omega arith;
+      high = omega arith;
+      not-excepted = λ x. omega arith;
+    })
 
 returns-6 : tie.Need-returns-6
 returns-6 c = same (c .before .before .before .before .before .before) .1
-    (record { joined = omega arith; gap-not-above = omega arith; low = omega arith; high = omega arith; not-excepted = λ x. omega arith })
+    (record {
+      joined = omega arith;
+      gap-not-above = omega arith;
+      low = omega arith;
+      high = omega arith;
+      not-excepted = λ x. omega arith;
+    })
 
 returns-7 : tie.Need-returns-7
 returns-7 c = λ f. let g = same (c .before .before .before .before .before .before .before) .0 f in
@@ -72,7 +91,13 @@ returns-8 c = λ f. let g = same (c .before .before .before .before .before .bef
 
 returns-9 : tie.Need-returns-9
 returns-9 c = same (c .before .before .before .before .before .before .before .before) .1
-    (record { joined = omega arith; gap-not-above = omega arith; low = omega arith; high = omega arith; not-excepted = λ x. elim (x .at-an-end) [ inl h ↦ omega arith | inr h ↦ omega arith ] })
+    (record {
+      joined = omega arith;
+      gap-not-above = omega arith;
+      low = omega arith;
+      high = omega arith;
+      not-excepted = λ x. elim (x .at-an-end) [ inl h ↦ omega arith | inr h ↦ omega arith ];
+    })
 
 pub forbidden-spec : {M : Type 1} → statement M
 forbidden-spec =
@@ -86,6 +111,7 @@ forbidden-spec =
     add-high-end
     add-parity
     add-parity-2
+    cast-if1
     returns
     returns-2
     returns-3

@@ -1,5 +1,6 @@
--- `rule::free_at` meets its contract. The seven numbers are those that `heldTick` and `heldPair` name, so the promise of `free_from` is the promise here. They
--- stand within the list, since the caller says that the seventh does. There is no loop. Assumes nothing.
+-- `rule::free_at` meets its contract. The seven numbers are those that `heldTick` and `heldPair` name, so the
+-- promise of `free_from` is the promise here. They stand within the list, since the caller says that the
+-- seventh does. There is no loop. Assumes nothing.
 use borrow.Author.Needs.{needs}
 use Rattle.rule.specs.Held.{heldPair, heldTick}
 use Rattle.rule.proofs.free_at.Statement.{statement}

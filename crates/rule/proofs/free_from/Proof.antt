@@ -1,32 +1,31 @@
--- `rule::free_from` meets its contract. The inner rule says whether the tick is forbidden. If it is, the laws of one stretch (`Stretch`) give the first free
--- tick: after the high end where the gap is below 0 or the parity is even, and at it otherwise. There is no loop. Assumes nothing.
-use mathlib.Core.Path.{_≡_}
-use mathlib.Core.Bool.{Bool, true, false, not}
+-- `rule::free_from` meets its contract. The inner rule says whether the tick is forbidden. If it is, the laws
+-- of one stretch (`Stretch`) give the first free tick: after the high end where the gap is below 0 or the
+-- parity is even, and at it otherwise. There is no loop. Assumes nothing.
 use mathlib.Core.Logic.{inr}
 use Prim.Native.Nat.{ℕ, _+_, _-_}
 use native.Mathlib.Omega.{arith}
-use Rattle.hall.specs.Rule.{Pair, pair6, Forbidden, Forbidden⁺, Answers}
+use Rattle.hall.specs.Rule.{Pair, pair6, Forbidden⁺}
+use Rattle.hall.proofs.Answers.{affirmed-not, denied-not}
 use Rattle.hall.proofs.Rules.{forbidden-iff}
 use Rattle.rule.proofs.Stretch.{free-here, free-after-last, free-at-last}
 use borrow.Author.Needs.{needs}
 use Rattle.rule.proofs.free_from.Statement.{statement}
 use Rattle.rule.proofs.free_from.Tie as tie
 
-denied : (b : Bool) {A : Type 0} → not b ≡ true → Answers b A → ¬ A
-denied true e a = let z : _≡_ {A = ℕ} 0 1 = cc in absurd (let x : ⊥ = omega arith in x)
-denied false e a = a
-
-affirmed : (b : Bool) {A : Type 0} → not b ≡ false → Answers b A → A
-affirmed true e a = a
-affirmed false e a = let z : _≡_ {A = ℕ} 0 1 = cc in absurd (let x : ⊥ = omega arith in x)
-
 -- the pair of the six arguments
 abbrev pair : tie.Start → Pair
 pair s = let a = s .args in pair6 (a .ss) (a .gg) (a .ii) (a .jj) (a .ij) (a .ji)
 
+-- the last tick of the stretch
+abbrev last : tie.Start → ℕ
+last s = let a = s .args in a .ti + a .ii - a .ji
+
 -- past the first test the tick is forbidden
 clash : (c : tie.Else1) → let s = c .before .before in Forbidden⁺ (pair s) (s .args .ti) (s .args .from)
-clash c = let s = c .before .before in forbidden-iff (pair s) (s .args .ti) (s .args .from) .0 (affirmed (c .before .forbidden .result) (c .if1 .left) (c .before .forbidden .ensures))
+clash c =
+    let s = c .before .before in
+    forbidden-iff (pair s) (s .args .ti) (s .args .from) .0
+    (affirmed-not (c .before .forbidden .result) (c .if1 .left) (c .before .forbidden .ensures))
 
 add-starts-goals : tie.Need-add-starts-goals
 add-starts-goals c = search needs
@@ -43,7 +42,8 @@ forbidden-requires c κs = search needs
 returns : tie.Need-returns
 returns c =
     let s = c .before .before in
-    free-here (pair s) (s .args .ti) (s .args .from) (denied (c .before .forbidden .result) (c .if1 .taken) (c .before .forbidden .ensures))
+    free-here (pair s) (s .args .ti) (s .args .from)
+    (denied-not (c .before .forbidden .result) (c .if1 .taken) (c .before .forbidden .ensures))
 
 sub-last : tie.Need-sub-last
 sub-last c = let f = clash c in omega (arith, f .high)
@@ -61,20 +61,26 @@ returns-2 : tie.Need-returns-2
 returns-2 c =
     let s = c .before .before .before in
     let f = clash (c .before) in
-    free-after-last (pair s) (s .args .ti) (s .args .from) (s .args .ti + s .args .ii - s .args .ji) f (omega (arith, f .high)) (λ e. omega (arith, e .gap-zero, c .if2 .taken))
+    free-after-last (pair s) (s .args .ti) (s .args .from) (last s) f (omega (arith, f .high))
+    (λ e. omega (arith, e .gap-zero, c .if2 .taken))
 
 returns-3 : tie.Need-returns-3
 returns-3 c =
     let s = c .before .before .before .before in
     let f = clash (c .before .before) in
-    free-after-last (pair s) (s .args .ti) (s .args .from) (s .args .ti + s .args .ii - s .args .ji) f (omega (arith, f .high)) (λ e. omega (arith, e .odd, c .if3 .taken))
+    free-after-last (pair s) (s .args .ti) (s .args .from) (last s) f (omega (arith, f .high))
+    (λ e. omega (arith, e .odd, c .if3 .taken))
 
 returns-4 : tie.Need-returns-4
 returns-4 c =
     let s = c .before .before .before .before in
     let f = clash (c .before .before) in
-    free-at-last (pair s) (s .args .ti) (s .args .from) (s .args .ti + s .args .ii - s .args .ji) f (omega (arith, f .high))
-    (record { gap-zero = omega (arith, f .gap-not-above, c .before .if2 .left); at-an-end = inr (omega (arith, f .high)); odd = omega (arith, c .if3 .left) })
+    free-at-last (pair s) (s .args .ti) (s .args .from) (last s) f (omega (arith, f .high))
+    (record {
+      gap-zero = omega (arith, f .gap-not-above, c .before .if2 .left);
+      at-an-end = inr (omega (arith, f .high));
+      odd = omega (arith, c .if3 .left);
+    })
 
 pub free-from-spec : {M : Type 1} → statement M
 free-from-spec =

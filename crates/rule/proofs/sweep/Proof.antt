@@ -1,5 +1,6 @@
--- `rule::sweep` meets its contract. The invariant (`SweptTo`): the tick stands where the carriers asked so far have moved it, and if it stands where it began,
--- they all permit it. The measure is the number of carriers that are still to be asked. Assumes nothing.
+-- `rule::sweep` meets its contract. The invariant (`SweptTo`): the tick stands where the carriers asked so
+-- far have moved it, and if it stands where it began, they all permit it. The measure is the number of
+-- carriers that are still to be asked. Assumes nothing.
 use mathlib.Core.Path.{_≡_, refl}
 use Prim.Native.Nat.{_+_, _*_, _/_, _-_, _≤_}
 use native.Mathlib.Omega.{arith}
@@ -10,13 +11,15 @@ use Rattle.rule.proofs.sweep.Statement.{statement}
 use Rattle.rule.proofs.sweep.Tie as tie
 
 abbrev Inv-loop : tie.InvT-loop
-Inv-loop held from count tick₀ place₀ tick place = (count ≡ length held / 7) × (place ≤ count) × SweptTo held from place tick
+Inv-loop held from count tick₀ place₀ tick place =
+    (count ≡ length held / 7) × (place ≤ count) × SweptTo held from place tick
 
 abbrev μ-loop : tie.MeasureT-loop
 μ-loop held from count tick₀ place₀ tick place = count - place
 
 loop-holds : tie.Need-loop-holds Inv-loop μ-loop
-loop-holds c = (refl, omega arith, sweep-begins (c .before .args .held .now) (c .before .args .from) (c .before .pre))
+loop-holds c =
+    (refl, omega arith, sweep-begins (c .before .args .held .now) (c .before .args .from) (c .before .pre))
 
 free-at-requires : tie.Need-free-at-requires Inv-loop μ-loop
 free-at-requires c κs = omega arith
@@ -36,13 +39,15 @@ loop-again c =
     let args = loop .before .before .args in (
       refl,
       omega arith,
-      sweep-on (args .held .now) (args .from) place (loop .loop .tick) (c .free-at .result) (c .before .loop-test .taken) (loop .loop .inv .2) (c .free-at .ensures)
+      sweep-on (args .held .now) (args .from) place (loop .loop .tick) (c .free-at .result)
+          (c .before .loop-test .taken) (loop .loop .inv .2) (c .free-at .ensures)
           (omega (arith, known (7 * place), known (7 * place + 3))),
     )
 
 returns : tie.Need-returns Inv-loop μ-loop
 returns c =
-    let args = c .before .before .before .args in sweep-ends (args .held .now) (args .from) (omega arith) (c .before .loop .inv .2)
+    let args = c .before .before .before .args in
+    sweep-ends (args .held .now) (args .from) (omega arith) (c .before .loop .inv .2)
 
 pub sweep-spec : {M : Type 1} → statement M
 sweep-spec =

@@ -1,8 +1,9 @@
--- `tables::all_nodes` meets its contract. The invariant: every number before i is a node. The measure is what is left of the numbers. Assumes nothing.
+-- `tables::all_nodes` meets its contract. The invariant: every number before i is a node. The measure is what
+-- is left of the numbers. Assumes nothing.
 use borrow.Author.Needs.{needs}
 use native.Mathlib.Omega.{arith}
-use mathlib.Core.Path.{_≡_, refl, subst}
-use Prim.Native.Nat.{ℕ, _+_, _*_, _/_, _-_, _≤_, _<_}
+use mathlib.Core.Path.{_≡_, refl}
+use Prim.Native.Nat.{ℕ, _*_, _/_, _-_, _≤_, _<_}
 use native.Mathlib.Nat.{not-suc-le-zero}
 use lib.ListN.{length, getD}
 use borrow.Author.Count.{below-more}

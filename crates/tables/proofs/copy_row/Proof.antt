@@ -1,17 +1,17 @@
--- `tables::copy_row` meets its contract. The invariant: the row is copied for the moves before j, `RowCopied` so far. The measure is how many moves are left.
--- Assumes nothing.
+-- `tables::copy_row` meets its contract. The invariant: the row is copied for the moves before j, `RowCopied`
+-- so far. The measure is how many moves are left. Assumes nothing.
 use borrow.Author.Needs.{needs}
 use native.Mathlib.Omega.{arith}
 use mathlib.Core.Path.{_≡_, refl}
-use Prim.Native.Nat.{ℕ, _+_, _*_, _/_, _-_, _≤_, _<_}
-use lib.ListN.{length, getD}
+use Prim.Native.Nat.{_+_, _*_, _-_, _≤_}
+use Rattle.hall.specs.Job.{moveCount}
 use Rattle.tables.specs.Blocks.{RowCopied}
 use Rattle.tables.proofs.Rows.{copied-none, copied-more}
 use Rattle.tables.proofs.copy_row.Statement.{statement}
 use Rattle.tables.proofs.copy_row.Tie as tie
 
 abbrev Inv-loop : tie.InvT-loop
-Inv-loop row moves offset base table₀ count j₀ table j = (count ≡ length moves / 2) × (j ≤ count) × RowCopied row moves offset j base table₀ table
+Inv-loop row moves offset base table₀ count j₀ table j = (count ≡ moveCount moves) × (j ≤ count) × RowCopied row moves offset j base table₀ table
 
 abbrev μ-loop : tie.MeasureT-loop
 μ-loop row moves offset base table₀ count j₀ table j = count - j
@@ -72,7 +72,7 @@ same-length c = search needs
 returns : tie.Need-returns Inv-loop μ-loop
 returns c =
     let loop = c .before in
-    let all : loop .loop .j ≡ length (loop .before .args .moves .now) / 2 = omega arith in
+    let all : loop .loop .j ≡ moveCount (loop .before .args .moves .now) = omega arith in
     rw (← all) (loop .loop .inv .2)
 
 pub copy-row-spec : {M : Type 1} → statement M

@@ -1,11 +1,13 @@
--- `tables::fill` meets its contract: what the tests leave is what is served, the least length is zeroed, and the rows of all carriers are filled. Assumes nothing.
+-- `tables::fill` meets its contract: what the tests leave is what is served, the least length is zeroed, and
+-- the rows of all carriers are filled. Assumes nothing.
 use borrow.Author.Needs.{needs}
-use mathlib.Core.Path.{_≡_, refl, sym, _∙_}
-use Prim.Native.Nat.{ℕ, _≤_, _<_}
+use mathlib.Core.Path.{_≡_, refl}
 use native.Mathlib.Omega.{arith}
 use lib.ListN.{length}
+use Rattle.hall.specs.Limits.{tableLength}
+use Rattle.hall.specs.Floor.{networkOf}
 use Rattle.hall.proofs.Answers.{affirmed-not, denied-not}
-use Rattle.hall.proofs.Left.{zeroed-length, zeroed-below, zeroed-beyond}
+use Rattle.hall.proofs.Left.{zeroed-below}
 use Rattle.tables.proofs.Blocks.{end-below, served-by, over-zeroed}
 use Rattle.tables.proofs.fill.Statement.{statement}
 use Rattle.tables.proofs.fill.Tie as tie
@@ -27,7 +29,7 @@ returns-4 c = record {
   unserved = λ s.
       let first = c .before .before .before .before .before .before .before .before in
       denied-not (c .before .all-nodes .result) (c .if4 .taken) (c .before .all-nodes .ensures)
-      (end-below (first .args .nodes) (first .args .moves .now) (s .on-floor));
+      (end-below (networkOf (first .args .nodes) (first .args .lanes .now)) (s .on-floor));
   kept = refl;
 }
 
@@ -42,8 +44,8 @@ fill-all-requires c κs =
     let table = first .args .table .now in
     let below = affirmed-not (nodes-test .all-nodes .result) (zero .before .before .if4 .left) (nodes-test .all-nodes .ensures) in
     let kept : length (zero .zero-first .last .0) ≡ length table = zero .zero-first .kept .0 in (
-      served-by (first .args .nodes) (first .args .moves .now) (omega arith) (omega arith) (omega (arith, kept)) below,
-      λ x h. rw (zero .zero-first .ensures) (zeroed-below 12288 table x h),
+      served-by (networkOf (first .args .nodes) (first .args .lanes .now)) (first .args .moves .now) (omega arith) (omega arith) (omega (arith, kept)) below,
+      λ x h. rw (zero .zero-first .ensures) (zeroed-below tableLength table x h),
     )
 
 same-length : tie.Need-same-length

@@ -1,29 +1,33 @@
--- `tables::fill_all` meets its contract. The invariant: the rows of the carriers before i are filled, and every other place is as it came, `FilledTo`. The
--- measure is how many carriers are left. Assumes nothing.
+-- `tables::fill_all` meets its contract. The invariant: the rows of the carriers before i are filled, and
+-- every other place is as it came, `FilledTo`. The measure is how many carriers are left. Assumes nothing.
 use borrow.Author.Needs.{needs}
 use mathlib.Core.Path.{_≡_, refl}
-use Prim.Native.Nat.{ℕ, _+_, _/_, _-_, _≤_, _<_}
+use Prim.Native.Nat.{_-_, _≤_}
 use native.Mathlib.Omega.{arith}
 use lib.ListN.{length}
+use Rattle.hall.specs.Limits.{tableLength}
+use Rattle.hall.specs.Floor.{networkOf}
+use Rattle.hall.specs.Job.{moveCount}
 use Rattle.tables.proofs.Blocks.{FilledTo, filled-none, filled-more, filled-all}
 use Rattle.tables.proofs.fill_all.Statement.{statement}
 use Rattle.tables.proofs.fill_all.Tie as tie
 
 abbrev Inv-loop : tie.InvT-loop
-Inv-loop nodes lanes moves table₀ count i₀ table i = (count ≡ length moves / 2) × (i ≤ count) × FilledTo nodes lanes moves table₀ i table
+Inv-loop nodes lanes moves table₀ count i₀ table i =
+    (count ≡ moveCount moves) × (i ≤ count) × FilledTo (networkOf nodes lanes) moves table₀ i table
 
 abbrev μ-loop : tie.MeasureT-loop
 μ-loop nodes lanes moves table₀ count i₀ table i = count - i
 
 loop-holds : tie.Need-loop-holds Inv-loop μ-loop
-loop-holds c = (refl, omega arith, filled-none _ _ _ _)
+loop-holds c = (refl, omega arith, filled-none _ _ _)
 
 fill-carrier-requires : tie.Need-fill-carrier-requires Inv-loop μ-loop
 fill-carrier-requires c κs =
     let loop = c .before .before in
     let first = loop .before .before .before .before in
     let served = first .pre .0 in
-    let room : 12288 ≤ length (loop .loop .table) = omega (arith, served .whole-table, loop .loop .inv .2 .size) in
+    let room : tableLength ≤ length (loop .loop .table) = omega (arith, served .whole-table, loop .loop .inv .2 .size) in
     (record { few-nodes = served .few-nodes; few-carriers = served .few-carriers; whole-table = room; on-floor = served .on-floor }, omega arith)
 
 add-i : tie.Need-add-i Inv-loop μ-loop
@@ -36,7 +40,7 @@ loop-again : tie.Need-loop-again Inv-loop μ-loop
 loop-again c =
     let loop = c .before .before .before .before .before in
     let first = loop .before .before .before .before in
-    (refl, omega arith, filled-more _ _ _ _ (first .pre .0 .few-carriers) (loop .loop .i) (omega arith) (loop .loop .inv .2) (c .before .before .fill-carrier .ensures))
+    (refl, omega arith, filled-more _ _ _ (first .pre .0 .few-carriers) (loop .loop .i) (omega arith) (loop .loop .inv .2) (c .before .before .fill-carrier .ensures))
 
 same-length : tie.Need-same-length Inv-loop μ-loop
 same-length c = c .before .loop .inv .2 .size
@@ -45,8 +49,8 @@ returns : tie.Need-returns Inv-loop μ-loop
 returns c =
     let loop = c .before in
     let first = loop .before .before .before .before in
-    let all : loop .loop .i ≡ length (first .args .moves .now) / 2 = omega arith in
-    filled-all _ _ _ _ (first .pre .0) (first .pre .1) (rw all at (loop .loop .inv .2))
+    let all : loop .loop .i ≡ moveCount (first .args .moves .now) = omega arith in
+    filled-all _ _ _ (first .pre .0) (first .pre .1) (rw all at (loop .loop .inv .2))
 
 pub fill-all-spec : {M : Type 1} → statement M
 fill-all-spec =

@@ -1,7 +1,10 @@
--- `tables::fill_carrier` meets its contract: two walks and three copies, put together by `carrier-filled`. Assumes nothing.
+-- `tables::fill_carrier` meets its contract: two walks and three copies, put together by `carrier-filled`.
+-- Assumes nothing.
 use borrow.Author.Needs.{needs}
 use native.Mathlib.Omega.{arith}
-use Rattle.tables.proofs.Blocks.{end-below, served-filled, carrier-filled}
+use Rattle.hall.specs.Floor.{networkOf}
+use Rattle.walk.proofs.WalkRow.{rowed-served}
+use Rattle.tables.proofs.Blocks.{end-below, carrier-filled}
 use Rattle.tables.proofs.fill_carrier.Statement.{statement}
 use Rattle.tables.proofs.fill_carrier.Tie as tie
 
@@ -43,7 +46,7 @@ copy-row-requires c κs =
     let walk = c .before .before .before in
     let first = walk .before .before .before .before .before .before .before in
     let served = first .pre .0 in
-    (omega arith, omega (arith, served .few-carriers, served .whole-table, first .pre .1), λ x h. omega (arith, end-below (first .args .nodes) (first .args .moves .now) (served .on-floor) x h, served .few-nodes, walk .distances .kept .1 .1 .1 .0))
+    (omega arith, omega (arith, served .few-carriers, served .whole-table, first .pre .1), λ x h. omega (arith, end-below (networkOf (first .args .nodes) (first .args .lanes .now)) (served .on-floor) x h, served .few-nodes, walk .distances .kept .1 .1 .1 .0))
 
 slice-aggregate-copy-row-2 : tie.Need-slice-aggregate-copy-row-2
 slice-aggregate-copy-row-2 c = search needs
@@ -57,7 +60,7 @@ copy-row-requires-2 c κs =
     let first = walk .before .before .before .before .before .before .before in
     let served = first .pre .0 in
     let copied = c .before .before .before .before in
-    (omega arith, omega (arith, served .few-carriers, served .whole-table, first .pre .1, copied .copy-row .ensures .size), λ x h. omega (arith, end-below (first .args .nodes) (first .args .moves .now) (served .on-floor) x h, served .few-nodes, walk .distances .kept .1 .1 .1 .0))
+    (omega arith, omega (arith, served .few-carriers, served .whole-table, first .pre .1, copied .copy-row .ensures .size), λ x h. omega (arith, end-below (networkOf (first .args .nodes) (first .args .lanes .now)) (served .on-floor) x h, served .few-nodes, walk .distances .kept .1 .1 .1 .0))
 
 slice-aggregate-distances-2 : tie.Need-slice-aggregate-distances-2
 slice-aggregate-distances-2 c = search needs
@@ -79,7 +82,7 @@ copy-row-requires-3 c κs =
     let walk = copied .before .before .before .before in
     let first = walk .before .before .before .before .before .before .before in
     let served = first .pre .0 in
-    (omega arith, omega (arith, served .few-carriers, served .whole-table, first .pre .1, copied .copy-row .ensures .size, copied′ .copy-row2 .ensures .size), λ x h. omega (arith, end-below (first .args .nodes) (first .args .moves .now) (served .on-floor) x h, served .few-nodes, walk .distances .kept .1 .1 .1 .0, again .distances2 .kept .1 .1 .1 .0))
+    (omega arith, omega (arith, served .few-carriers, served .whole-table, first .pre .1, copied .copy-row .ensures .size, copied′ .copy-row2 .ensures .size), λ x h. omega (arith, end-below (networkOf (first .args .nodes) (first .args .lanes .now)) (served .on-floor) x h, served .few-nodes, walk .distances .kept .1 .1 .1 .0, again .distances2 .kept .1 .1 .1 .0))
 
 same-length : tie.Need-same-length
 same-length c = search needs
@@ -93,11 +96,15 @@ returns c =
     let walk = copied .before .before .before .before in
     let first = walk .before .before .before .before .before .before .before in
     let served = first .pre .0 in
-    let ends = served .on-floor (first .args .i) (first .pre .1) in
-    carrier-filled (first .args .nodes) (first .args .lanes .now) (first .args .moves .now) (first .args .i) (served .few-carriers) (first .pre .1) (served .on-floor)
-    (served-filled (walk .distances .ensures) (record { few = served .few-nodes; on-floor = ends .0; wide = served .few-nodes }))
-    (copied .copy-row .ensures) (copied′ .copy-row2 .ensures)
-    (served-filled (again .distances2 .ensures) (record { few = served .few-nodes; on-floor = ends .1; wide = omega (arith, served .few-nodes, walk .distances .kept .1 .1 .1 .0) }))
+    let ends = served .on-floor in
+    let i = first .args .i in
+    let from = ends .starts i (first .pre .1) in
+    let to = ends .goals i (first .pre .1) in
+    carrier-filled (networkOf (first .args .nodes) (first .args .lanes .now)) (first .args .moves .now) i (served .few-carriers) (first .pre .1) ends
+    (rowed-served (record { few = served .few-nodes; on-floor = from; wide = served .few-nodes }) (walk .distances .ensures) .1)
+    (copied .copy-row .ensures)
+    (copied′ .copy-row2 .ensures)
+    (rowed-served (record { few = served .few-nodes; on-floor = to; wide = omega (arith, served .few-nodes, walk .distances .kept .1 .1 .1 .0) }) (again .distances2 .ensures) .1)
     (copied″ .copy-row3 .ensures)
 
 pub fill-carrier-spec : {M : Type 1} → statement M

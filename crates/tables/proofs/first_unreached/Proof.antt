@@ -1,30 +1,30 @@
--- `tables::first_unreached` meets its contract. The invariant: each carrier before i has a distance of its own. The measure is how many carriers are left.
--- Assumes nothing.
+-- `tables::first_unreached` meets its contract. The invariant: each carrier before i has a distance of its
+-- own. The measure is how many carriers are left. Assumes nothing.
 use borrow.Author.Needs.{needs}
 use native.Mathlib.Omega.{arith}
-use mathlib.Core.Path.{_≡_, refl}
+use mathlib.Core.Path.{refl}
 use mathlib.Core.Logic.{inl, inr, _≢_}
-use Prim.Native.Nat.{ℕ, _+_, _*_, _/_, _-_, _≤_, _<_}
+use Prim.Native.Nat.{ℕ, _-_, _≤_, _<_}
 use native.Mathlib.Nat.{not-suc-le-zero}
 use borrow.Author.Count.{below-more}
-use lib.ListN.{length, getD}
+use Rattle.hall.specs.Limits.{noWalkMark}
 use Rattle.hall.specs.Ticks.{own}
 use Rattle.hall.specs.Plan.{tablesIn}
-use Rattle.tables.specs.Filling.{Unreached, Reaching, looked, unserved}
+use Rattle.tables.specs.Filling.{looked, unserved}
 use Rattle.tables.proofs.first_unreached.Statement.{statement}
 use Rattle.tables.proofs.first_unreached.Tie as tie
 
 abbrev Inv-loop : tie.InvT-loop
-Inv-loop table carriers i₀ i = (i ≤ carriers) × ((x : ℕ) → x < i → own (tablesIn table) x ≢ 65535)
+Inv-loop table carriers i₀ i = (i ≤ carriers) × ((x : ℕ) → x < i → own (tablesIn table) x ≢ noWalkMark)
 
 abbrev μ-loop : tie.MeasureT-loop
 μ-loop table carriers i₀ i = carriers - i
 
 returns : tie.Need-returns Inv-loop μ-loop
-returns c = unserved (inl (c .if1 .taken)) refl
+returns c = unserved (inl (c .if1 .taken))
 
 returns-2 : tie.Need-returns-2 Inv-loop μ-loop
-returns-2 c = unserved (inr (c .if2 .taken)) refl
+returns-2 c = unserved (inr (c .if2 .taken))
 
 loop-holds : tie.Need-loop-holds Inv-loop μ-loop
 loop-holds c = (omega arith, λ x h. absurd (not-suc-le-zero h))
@@ -44,10 +44,21 @@ mul-if3 c = search needs
 shared-slice-read-if3 : tie.Need-shared-slice-read-if3 Inv-loop μ-loop
 shared-slice-read-if3 c = search needs
 
+cast-number : tie.Need-cast-number Inv-loop μ-loop
+cast-number c = omega arith
+
 returns-3 : tie.Need-returns-3 Inv-loop μ-loop
 returns-3 c =
-    let loop = c .before .before .before in
-    looked (omega arith) (omega arith) (record { none-before = loop .loop .inv .1; within = omega arith; marked = λ h. c .if3 .taken })
+    let loop = c .before .before .before in (
+      refl,
+      record {
+        whole-table = omega arith;
+        few-carriers = omega arith;
+        is-carrier = omega arith;
+        marked = c .if3 .taken;
+        none-lower = loop .loop .inv .1;
+      },
+    )
 
 add-i : tie.Need-add-i Inv-loop μ-loop
 add-i c = search needs
@@ -63,7 +74,7 @@ loop-again c =
 returns-4 : tie.Need-returns-4 Inv-loop μ-loop
 returns-4 c =
     let loop = c .before in
-    looked (omega arith) (omega arith) (record { none-before = loop .loop .inv .1; within = loop .loop .inv .0; marked = λ h. absurd (let x : ⊥ = omega arith in x) })
+    looked (omega arith) (omega arith) (λ x h. loop .loop .inv .1 x (omega arith))
 
 pub first-unreached-spec : {M : Type 1} → statement M
 first-unreached-spec =
@@ -79,6 +90,7 @@ first-unreached-spec =
     add-at-2
     mul-if3
     shared-slice-read-if3
+    cast-number
     returns-3
     add-i
     loop-less

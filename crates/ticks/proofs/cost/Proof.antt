@@ -1,31 +1,42 @@
--- `ticks::cost` meets its contract. The invariant: the sum is that of the goal ticks of the first i carriers, and at most 4,194,304 for each of them,
--- since a tick is early and a distance below 65,536; so 64 of them fit 32 bits. The measure is what is left of the carriers. Assumes nothing.
+-- `ticks::cost` meets its contract. The invariant: the sum is that of the goal ticks of the first i carriers,
+-- and at most 4,194,304 for each of them, since a tick is early and a distance below 65,536; so 64 of them
+-- fit 32 bits. The measure is what is left of the carriers. Assumes nothing.
 use mathlib.Core.Path.{_≡_, sym}
 use Prim.Native.Nat.{_+_, _*_, _-_, _≤_, _<_}
 use native.Mathlib.Omega.{arith}
 use lib.ListN.{getD}
-use Rattle.hall.specs.Ticks.{costOf, goalTick}
+use Rattle.hall.specs.Limits.{carrierLimit, blockLength}
+use Rattle.hall.specs.Ticks.{own, costOf, goalTick}
 use Rattle.hall.specs.Plan.{tablesIn}
 use Rattle.ticks.proofs.Sums.{total-none, total-more}
 use Rattle.ticks.proofs.cost.Statement.{statement}
 use Rattle.ticks.proofs.cost.Tie as tie
 
 abbrev Inv-loop : tie.InvT-loop
-Inv-loop table k ticks sum₀ i₀ sum i = (i ≤ k) × (sum ≤ 4194304 * i) × (sum ≡ costOf (tablesIn table) (λ j. getD ticks j 0) i)
+Inv-loop table k ticks sum₀ i₀ sum i =
+    (i ≤ k) × (sum ≤ 4194304 * i) × (sum ≡ costOf (tablesIn table) (λ j. getD ticks j 0) i)
 
 abbrev μ-loop : tie.MeasureT-loop
 μ-loop table k ticks sum₀ i₀ sum i = k - i
 
 -- a turn adds a tick that is early and a distance below 65,536
-turn-early : (c : tie.After-shared-slice-known2 Inv-loop μ-loop) → getD (c .before .before .before .before .args .ticks .now) (c .before .before .before .loop .i) 0 ≤ 4128768
-turn-early c = c .before .before .before .before .pre .3 .by-number (c .before .before .before .loop .i) (c .before .before .loop-test .taken)
+turn-early : (c : tie.After-shared-slice-known2 Inv-loop μ-loop) →
+    let at = c .before .before .before in getD (at .before .args .ticks .now) (at .loop .i) 0 ≤ 4128768
+turn-early c =
+    let at = c .before .before .before in
+    at .before .pre .3 .by-number (at .loop .i) (c .before .before .loop-test .taken)
 
-turn-distance : (c : tie.After-shared-slice-known2 Inv-loop μ-loop) → let i = c .before .before .before .loop .i in getD (c .before .before .before .before .args .table .now) (4096 + (64 * i + i)) 0 < 65536
-turn-distance c = let i = c .before .before .before .loop .i in omega (arith, c .before .shared-slice-known .given (4096 + (64 * i + i)))
+turn-distance : (c : tie.After-shared-slice-known2 Inv-loop μ-loop) →
+    let at = c .before .before .before in own (tablesIn (at .before .args .table .now)) (at .loop .i) < 65536
+turn-distance c =
+    let i = c .before .before .before .loop .i in
+    omega (arith, c .before .shared-slice-known .given (blockLength + (carrierLimit * i + i)))
 
 loop-holds : tie.Need-loop-holds Inv-loop μ-loop
 loop-holds c =
-    let a = c .args in (omega arith, omega arith, sym (total-none (goalTick (tablesIn (a .table .now)) (λ j. getD (a .ticks .now) j 0))))
+    let a = c .args in
+    let f = goalTick (tablesIn (a .table .now)) (λ j. getD (a .ticks .now) j 0) in
+    (omega arith, omega arith, sym (total-none f))
 
 mul-own : tie.Need-mul-own Inv-loop μ-loop
 mul-own c = omega arith
@@ -44,7 +55,8 @@ shared-slice-read-distance c = omega arith
 
 cast-distance : tie.Need-cast-distance Inv-loop μ-loop
 cast-distance c =
-    let i = c .before .before .loop .i in omega (arith, c .shared-slice-known .given (4096 + (64 * i + i)))
+    let i = c .before .before .loop .i in
+    omega (arith, c .shared-slice-known .given (blockLength + (carrierLimit * i + i)))
 
 mul-sum : tie.Need-mul-sum Inv-loop μ-loop
 mul-sum c = omega arith
@@ -68,8 +80,11 @@ loop-again : tie.Need-loop-again Inv-loop μ-loop
 loop-again c =
     let a = c .before .before .before .before .args in
     let loop = c .before .before .before .loop in
-    let f = goalTick (tablesIn (a .table .now)) (λ j. getD (a .ticks .now) j 0) in
-    (omega arith, omega (arith, turn-early c, turn-distance c), rw (loop .inv .2) (sym (total-more (loop .i) f)))
+    let f = goalTick (tablesIn (a .table .now)) (λ j. getD (a .ticks .now) j 0) in (
+      omega arith,
+      omega (arith, turn-early c, turn-distance c),
+      rw (loop .inv .2) (sym (total-more (loop .i) f)),
+    )
 
 returns : tie.Need-returns Inv-loop μ-loop
 returns c =

@@ -1,5 +1,6 @@
--- `ticks::hold` meets its contract. The seven places stand within the list, which keeps its length over each store, and seven stores one after the
--- other are the run of stores that the contract names. There is no loop. Assumes nothing.
+-- `ticks::hold` meets its contract. The seven places stand within the list, which keeps its length over each
+-- store, and seven stores one after the other are the run of stores that the contract names. There is no
+-- loop. Assumes nothing.
 use native.Mathlib.Omega.{arith}
 use lib.ListN.{length-set}
 use Rattle.hall.specs.Rule.{pair6}
@@ -75,7 +76,9 @@ same-length : tie.Need-same-length
 same-length c = simp length-set
 
 returns : tie.Need-returns
-returns c = let a = c .args in in-a-row (a .held .now) (a .place) (a .tick) (pair6 (a .ss) (a .gg) (a .ii) (a .jj) (a .ij) (a .ji))
+returns c =
+    let a = c .args in
+    in-a-row (a .held .now) (a .place .0) (a .tick) (pair6 (a .ss) (a .gg) (a .ii) (a .jj) (a .ij) (a .ji))
 
 pub hold-spec : {M : Type 1} → statement M
 hold-spec =

@@ -1,8 +1,15 @@
--- `ticks::hold_pair` meets its contract. The six places that are read are those that `tablesIn` names, each within the table's three blocks, since both
--- numbers are below 64. So what `hold` promises of the six is the pair of i and j. There is no loop. Assumes nothing.
+-- `ticks::hold_pair` meets its contract. The six places that are read are those that `tablesIn` names, each
+-- within the table's three blocks, since both numbers are below 64. So what `hold` promises of the six is the
+-- pair of i and j. There is no loop. Assumes nothing.
 use borrow.Author.Needs.{needs}
 use Rattle.ticks.proofs.hold_pair.Statement.{statement}
 use Rattle.ticks.proofs.hold_pair.Tie as tie
+
+cast-a : tie.Need-cast-a
+cast-a c = search needs
+
+cast-b : tie.Need-cast-b
+cast-b c = search needs
 
 mul-there : tie.Need-mul-there
 mul-there c = search needs
@@ -34,11 +41,14 @@ mul-ss c = search needs
 shared-slice-read-ss : tie.Need-shared-slice-read-ss
 shared-slice-read-ss c = search needs
 
+mul-gg : tie.Need-mul-gg
+mul-gg c = search needs
+
 add-gg : tie.Need-add-gg
 add-gg c = search needs
 
-mul-gg : tie.Need-mul-gg
-mul-gg c = search needs
+mul-gg-2 : tie.Need-mul-gg-2
+mul-gg-2 c = search needs
 
 shared-slice-read-gg : tie.Need-shared-slice-read-gg
 shared-slice-read-gg c = search needs
@@ -92,6 +102,8 @@ pub hold-pair-spec : {M : Type 1} → statement M
 hold-pair-spec =
     tie.close
     (tie.spec
+    cast-a
+    cast-b
     mul-there
     add-there
     mul-back
@@ -102,8 +114,9 @@ hold-pair-spec =
     add-own-j
     mul-ss
     shared-slice-read-ss
-    add-gg
     mul-gg
+    add-gg
+    mul-gg-2
     shared-slice-read-gg
     add-ii
     mul-ii

@@ -1,5 +1,6 @@
--- `ticks::place_all` meets its contract. The invariant: the carriers at the places before q have their start ticks, and all other ticks are as they came. A
--- turn places one more (`placed-more`). The measure is what is left of the places. Assumes nothing.
+-- `ticks::place_all` meets its contract. The invariant: the carriers at the places before q have their start
+-- ticks, and all other ticks are as they came. A turn places one more (`placed-more`). The measure is what is
+-- left of the places. Assumes nothing.
 use mathlib.Core.Path.{_≡_, refl}
 use Prim.Native.Nat.{_-_, _≤_}
 use native.Mathlib.Omega.{arith}
@@ -10,19 +11,22 @@ use Rattle.ticks.proofs.place_all.Statement.{statement}
 use Rattle.ticks.proofs.place_all.Tie as tie
 
 abbrev Inv-loop : tie.InvT-loop
-Inv-loop table order ticks₀ count q₀ ticks q = (count ≡ length order) × (q ≤ count) × PlacedTo table order ticks₀ ticks q
+Inv-loop table order ticks₀ count q₀ ticks q =
+    (count ≡ length order) × (q ≤ count) × PlacedTo table order ticks₀ ticks q
 
 abbrev μ-loop : tie.MeasureT-loop
 μ-loop table order ticks₀ count q₀ ticks q = count - q
 
 loop-holds : tie.Need-loop-holds Inv-loop μ-loop
-loop-holds c = let a = c .before .before .before .args in (refl, omega arith, placed-none (a .table .now) (a .order .now) (a .ticks .now))
+loop-holds c =
+    let a = c .before .before .before .args in
+    (refl, omega arith, placed-none (a .table .now) (a .order .now) (a .ticks .now))
 
 place-next-requires : tie.Need-place-next-requires Inv-loop μ-loop
 place-next-requires c κs =
-    let loop = c .before .before .loop in
-    let placed = loop .inv .2 in
-    (rw (placed .as-many) (c .before .before .before .before .before .before .pre), omega arith, placed .early)
+    let at = c .before .before in
+    let placed = at .loop .inv .2 in
+    (rw (placed .as-many) (at .before .before .before .before .pre), omega arith, placed .early)
 
 add-q : tie.Need-add-q Inv-loop μ-loop
 add-q c = omega arith
@@ -32,13 +36,16 @@ loop-less c = omega arith
 
 loop-again : tie.Need-loop-again Inv-loop μ-loop
 loop-again c =
-    let start = c .before .before .before .before .before .before .before .before .before in
+    let at = c .before .before .before .before .before in
+    let start = at .before .before .before .before in
     let a = start .args in
-    let loop = c .before .before .before .before .before .loop in (
+    let loop = at .loop in
+    let next = c .before .before .place-next in (
       refl,
       omega arith,
-      placed-more (a .table .now) (a .order .now) (a .ticks .now) (length (a .ticks .now)) (start .pre) (loop .ticks) (c .before .before .place-next .last .1 .1 .1 .0)
-          (loop .q) (omega arith) (loop .inv .2 .as-many) (loop .inv .2) (c .before .before .place-next .ensures),
+      placed-more (a .table .now) (a .order .now) (a .ticks .now) (length (a .ticks .now)) (start .pre)
+          (loop .ticks) (next .last .1 .1 .1 .0) (loop .q) (omega arith) (loop .inv .2 .as-many)
+          (loop .inv .2) (next .ensures),
     )
 
 same-length : tie.Need-same-length Inv-loop μ-loop
@@ -47,7 +54,8 @@ same-length c = c .before .loop .inv .2 .as-many
 returns : tie.Need-returns Inv-loop μ-loop
 returns c =
     let loop = c .before .loop in
-    let e : loop .q ≡ length (c .before .before .before .before .before .args .order .now) = omega arith in rw e at (loop .inv .2)
+    let e : loop .q ≡ length (c .before .before .before .before .before .args .order .now) = omega arith in
+    rw e at (loop .inv .2)
 
 pub place-all-spec : {M : Type 1} → statement M
 place-all-spec =

@@ -1,6 +1,7 @@
--- `ticks::place_next` meets its contract. The gathered list permits what the carriers placed before q permit (`lent-smallest`), so the first tick by it is
--- the smallest tick at place q. It is early (`next-early`), so it fits 32 bits. It is written at the carrier's number, which is below 64. There is no loop.
--- Assumes nothing.
+-- `ticks::place_next` meets its contract. The gathered list permits what the carriers placed before q permit
+-- (`lent-smallest`), so the first tick by it is the smallest tick at place q. It is early (`next-early`), so
+-- it fits 32 bits. It is written at the carrier's number, which is below 64. There is no loop. Assumes
+-- nothing.
 use Prim.Native.Nat.{ℕ, _*_, _≤_, _<_}
 use native.Mathlib.Omega.{arith}
 use lib.ListN.{length, getD, set}
@@ -15,22 +16,32 @@ use borrow.Author.Needs.{needs}
 use Rattle.ticks.proofs.place_next.Statement.{statement}
 use Rattle.ticks.proofs.place_next.Tie as tie
 
+-- what was asked of, seen from the store of the tick
+abbrev begun : tie.After-struct-known → tie.Start
+begun c = c .before .before .before .before .before .before .before .before .before .before .before
+
 -- the first tick by the gathered list is the smallest at the place
-smallest : (c : tie.After-struct-known) → let a = c .before .before .before .before .before .before .before .before .before .before .before .args in
-    SmallestFrom 0 (PermittedAt (tablesIn (a .table .now)) (a .order .now) (λ i. getD (a .ticks .now) i 0) (a .q)) (c .before .before .first-tick .result)
+smallest : (c : tie.After-struct-known) →
+    let a = begun c .args in
+    SmallestFrom 0
+    (PermittedAt (tablesIn (a .table .now)) (a .order .now) (λ i. getD (a .ticks .now) i 0) (a .q .0))
+    (c .before .before .first-tick .result)
 smallest c =
-    let start = c .before .before .before .before .before .before .before .before .before .before .before in
+    let start = begun c in
     let a = start .args in
     let gather = c .before .before .before .before .before .gather in
-    lent-smallest (a .table .now) (a .order .now) (a .ticks .now) _ (gather .last .1 .1 .1 .1 .0) (a .q) (gather .ensures)
-    (omega (arith, gather .ensures .as-many, start .pre .0 .few-places, start .pre .1)) (c .before .before .first-tick .ensures)
+    lent-smallest (a .table .now) (a .order .now) (a .ticks .now) _ (gather .last .1 .1 .1 .1 .0) (a .q .0)
+    (gather .ensures) (omega (arith, gather .ensures .as-many, start .pre .0 .few-places, start .pre .1))
+    (c .before .before .first-tick .ensures)
 
-early : (c : tie.After-struct-known) → c .before .before .first-tick .result ≤ 65536 * c .before .before .before .before .before .before .before .before .before .before .before .args .q
+early : (c : tie.After-struct-known) → c .before .before .first-tick .result ≤ 65536 * (begun c .args .q .0)
 early c =
-    let start = c .before .before .before .before .before .before .before .before .before .before .before in
+    let start = begun c in
     let a = start .args in
-    let known = c .before .before .before .before .before .before .before .before .before .before .shared-slice-known .given in
-    next-early (a .table .now) (a .order .now) (a .ticks .now) (a .q) (λ k. omega (arith, known k)) (start .pre .2) (smallest c)
+    let after = c .before .before .before .before .before .before .before .before .before .before in
+    let known = after .shared-slice-known .given in
+    next-early (a .table .now) (a .order .now) (a .ticks .now) (a .q .0) (λ k. omega (arith, known k))
+    (start .pre .2) (smallest c)
 
 slice-aggregate-gather : tie.Need-slice-aggregate-gather
 slice-aggregate-gather c = search needs
@@ -48,7 +59,9 @@ slice-aggregate-first-tick : tie.Need-slice-aggregate-first-tick
 slice-aggregate-first-tick c =
     let start = c .before .before .before .before .before .before .before .before in
     let gather = c .before .before .gather in
-    sym (length-take-le (7 * start .args .q) (gather .last .1 .1 .1 .1 .0) (omega (arith, gather .ensures .as-many, start .pre .0 .few-places, start .pre .1)))
+    sym
+    (length-take-le (7 * (start .args .q .0)) (gather .last .1 .1 .1 .1 .0)
+    (omega (arith, gather .ensures .as-many, start .pre .0 .few-places, start .pre .1)))
 
 first-tick-requires : tie.Need-first-tick-requires
 first-tick-requires c κs = search needs
@@ -60,23 +73,31 @@ cast-j : tie.Need-cast-j
 cast-j c = search needs
 
 cast-ticks : tie.Need-cast-ticks
-cast-ticks c = let start = c .before .before .before .before .before .before .before .before .before .before .before in omega (arith, early c, start .pre .0 .few-places, start .pre .1)
+cast-ticks c = let start = begun c in omega (arith, early c, start .pre .0 .few-places, start .pre .1)
 
 mul-ticks : tie.Need-mul-ticks
 mul-ticks c = search needs
 
 slice-write-ticks : tie.Need-slice-write-ticks
 slice-write-ticks c =
-    let start = c .before .before .before .before .before .before .before .before .before .before .before in omega (arith, number-below (start .pre .0) (start .args .q) (start .pre .1) (c .before .carrier .ensures), start .pre .0 .enough-room)
+    let start = begun c in
+    let new = c .before .carrier in
+    let below = number-below (start .pre .0) (start .args .q .0) (start .pre .1) (new .ensures) in
+    omega (arith, below, start .pre .0 .enough-room)
 
 same-length : tie.Need-same-length
 same-length c = search needs
 
 returns : tie.Need-returns
 returns c =
-    let ticks = c .before .before .before .before .before .before .before .before .before .before .before .args .ticks .now in
+    let ticks = begun c .args .ticks .now in
     let first = c .before .before .first-tick in
-    record { tick = first .result; smallest = smallest c; early = early c; written = ap (λ (n : ℕ). set ticks n (first .result)) (c .before .carrier .ensures) }
+    record {
+      tick = first .result;
+      smallest = smallest c;
+      early = early c;
+      written = ap (λ (n : ℕ). set ticks n (first .result)) (c .before .carrier .ensures);
+    }
 
 pub place-next-spec : {M : Type 1} → statement M
 place-next-spec =

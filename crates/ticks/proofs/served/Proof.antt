@@ -1,10 +1,19 @@
--- `ticks::served` meets its contract. Each test that fails denies a part of `Served`; when all three hold, the check of the order decides the last part.
--- There is no loop. Assumes nothing.
+-- `ticks::served` meets its contract. Each test that fails denies a part of `TicksServed`; when all three hold,
+-- the check of the order decides the last part. There is no loop. Assumes nothing.
+use mathlib.Core.List.{[], _∷_}
 use native.Mathlib.Omega.{arith}
-use Rattle.ticks.proofs.Order.{order-passed, order-refused}
+use lib.ListN.{length}
+use Rattle.hall.specs.Stages.{Question}
+use Rattle.hall.specs.Questions.{eachOrderPlace}
+use Rattle.hall.proofs.Stages.{none-excludes}
+use Rattle.hall.proofs.Compose.{sound-none, refused-first}
 use borrow.Author.Needs.{needs}
 use Rattle.ticks.proofs.served.Statement.{statement}
 use Rattle.ticks.proofs.served.Tie as tie
+
+-- what is asked of the order
+abbrev asked-order : tie.Start → Question
+asked-order s = let order = s .args .order .now in eachOrderPlace (length order) order ∷ []
 
 returns : tie.Need-returns
 returns c = search needs
@@ -25,15 +34,22 @@ enum-told-2 : tie.Need-enum-told-2
 enum-told-2 c = search needs
 
 returns-4 : tie.Need-returns-4
-returns-4 c = record {
-  whole-table = omega arith;
-  few-places = omega arith;
-  sound-order = order-passed (c .before .before .before .before .before .before .before .before .args .order .now) (c .enum-told .given .1) (c .before .before .check-order .ensures);
-  enough-room = omega arith;
-}
+returns-4 c =
+    let start = c .before .before .before .before .before .before .before .before in
+    let check = c .before .before .check-order in
+    record {
+      whole-table = omega arith;
+      few-places = omega arith;
+      sound-order = sound-none (asked-order start) (c .enum-told .given .1) (check .ensures);
+      enough-room = omega arith;
+    }
 
 returns-5 : tie.Need-returns-5
-returns-5 c = order-refused (c .before .before .before .before .before .before .before .before .args .order .now) (c .enum-told2 .given .1) (c .before .before .check-order .ensures)
+returns-5 c =
+    let start = c .before .before .before .before .before .before .before .before in
+    let check = c .before .before .check-order in
+    let first = refused-first (asked-order start) (c .enum-told2 .given .1) (check .ensures) in
+    λ s. none-excludes first (s .sound-order)
 
 pub served-spec : {M : Type 1} → statement M
 served-spec =

@@ -1,10 +1,9 @@
--- `walk::distances` meets its contract: each test that fails is a part of `Served` that does not hold, and where all hold `reach` fills the row.
--- Assumes nothing.
-use mathlib.Core.Path.{_≡_, refl}
-use Prim.Native.Nat.{ℕ, _≤_, _<_}
+-- `walk::distances` meets its contract: each test that fails is a part of `RowServed` that does not hold, and
+-- where all hold `reach` fills the row. Assumes nothing.
+use mathlib.Core.Path.{refl}
 use native.Mathlib.Omega.{arith}
 use borrow.Author.Needs.{needs}
-use Rattle.walk.specs.Row.{Served, filled, refused}
+use Rattle.walk.specs.Row.{filled, refused}
 use Rattle.walk.proofs.distances.Statement.{statement}
 use Rattle.walk.proofs.distances.Tie as tie
 

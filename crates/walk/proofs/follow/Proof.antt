@@ -1,15 +1,18 @@
--- `walk::follow` meets its contract. The invariant is `Following`: the links behind are done. The measure is the next link, since each leads to an earlier
--- place. Assumes nothing.
-use mathlib.Core.Path.{_≡_, refl, _∙_}
-use Prim.Native.Nat.{ℕ, _+_, _-_, _*_, _≤_, _<_}
+-- `walk::follow` meets its contract. The invariant is `Following`: the links behind are done. The measure is
+-- the next link, since each leads to an earlier place. Assumes nothing.
+use mathlib.Core.Path.{_≡_}
+use Prim.Native.Nat.{_+_, _-_, _<_}
 use native.Mathlib.Omega.{arith}
-use lib.ListN.{length, getD, set, length-set}
+use lib.ListN.{getD}
+use Rattle.hall.specs.Limits.{nodeLimit}
+use Rattle.hall.specs.Floor.{networkOf}
 use Rattle.walk.proofs.WalkChain.{Following, following-none, following-link, following-earlier, following-all}
 use Rattle.walk.proofs.follow.Statement.{statement}
 use Rattle.walk.proofs.follow.Tie as tie
 
 abbrev Inv-loop : tie.InvT-loop
-Inv-loop nodes lanes n chain u label row₀ list₀ tail here end₀ past₀ row list end past = Following nodes lanes n u label row₀ list₀ tail past row list end
+Inv-loop nodes lanes n chain u label row₀ list₀ tail here end₀ past₀ row list end past =
+    Following (networkOf nodes lanes) n u label row₀ list₀ tail past row list end
 
 abbrev μ-loop : tie.MeasureT-loop
 μ-loop nodes lanes n chain u label row₀ list₀ tail here end₀ past₀ row list end past = past
@@ -68,7 +71,7 @@ abbrev head : tie.After-past2 Inv-loop μ-loop → tie.At-loop Inv-loop μ-loop
 head c = c .before .before .before .before .before .before .before .before
 
 -- the next link is at an earlier place
-earlier : (c : tie.After-past2 Inv-loop μ-loop) → getD (entry c .args .chain .now) (1024 + (head c .loop .past - 1)) 0 < head c .loop .past
+earlier : (c : tie.After-past2 Inv-loop μ-loop) → getD (entry c .args .chain .now) (nodeLimit + (head c .loop .past - 1)) 0 < head c .loop .past
 earlier c = following-earlier (omega arith) (entry c .pre .2) (entry c .pre .3) (head c .loop .inv)
 
 cast-past-2 : tie.Need-cast-past-2 Inv-loop μ-loop

@@ -1,22 +1,25 @@
--- `walk::link` meets its contract. The invariant: the numbers before place i are chained. The measure is what is left of them. Assumes nothing.
+-- `walk::link` meets its contract. The invariant: the numbers before place i are chained. The measure is what
+-- is left of them. Assumes nothing.
 use mathlib.Core.Logic.{inl, inr}
-use mathlib.Core.Path.{_≡_, refl, _∙_}
-use Prim.Native.Nat.{ℕ, _+_, _-_, _*_, _≤_, _<_}
+use mathlib.Core.Path.{_≡_}
+use Prim.Native.Nat.{_+_, _-_, _≤_}
 use native.Mathlib.Omega.{arith}
-use lib.ListN.{length, getD, set, length-set}
+use lib.ListN.{length, length-set}
+use Rattle.hall.specs.Limits.{nodeLimit, laneNumbers}
+use Rattle.hall.specs.Floor.{networkOf}
 use Rattle.walk.specs.Chain.{Chained}
 use Rattle.walk.proofs.WalkChain.{chained-none, chained-more, chained-skip}
 use Rattle.walk.proofs.link.Statement.{statement}
 use Rattle.walk.proofs.link.Tie as tie
 
 abbrev Inv-loop : tie.InvT-loop
-Inv-loop nodes lanes n chain₀ i₀ chain i = (i ≤ n) × (length chain ≡ 9216) × Chained nodes lanes i chain
+Inv-loop nodes lanes n chain₀ i₀ chain i = (i ≤ n) × (length chain ≡ nodeLimit + laneNumbers) × Chained (networkOf nodes lanes) i chain
 
 abbrev μ-loop : tie.MeasureT-loop
 μ-loop nodes lanes n chain₀ i₀ chain i = n - i
 
 loop-holds : tie.Need-loop-holds Inv-loop μ-loop
-loop-holds c = (omega arith, c .pre .2 .places, chained-none (c .args .lanes .now) (c .pre .0) (c .pre .2))
+loop-holds c = (omega arith, c .pre .2 .places, chained-none (networkOf (c .args .nodes) (c .args .lanes .now)) (c .pre .0) (c .pre .2))
 
 mul-x : tie.Need-mul-x Inv-loop μ-loop
 mul-x c = omega arith

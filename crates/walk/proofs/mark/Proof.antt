@@ -1,10 +1,11 @@
--- `walk::mark` meets its contract: each way out is one case of `Marked`. A node without a label finds a place in the list (`room-next`), so that the
--- store into the list is within it. Assumes nothing.
-use mathlib.Core.Path.{_≡_, refl}
-use Prim.Native.Nat.{ℕ, _+_, _≤_, _<_}
+-- `walk::mark` meets its contract: each way out is one case of `Marked`. A node without a label finds a place
+-- in the list (`room-next`), so that the store into the list is within it. Assumes nothing.
+use mathlib.Core.Path.{refl}
+use Prim.Native.Nat.{_<_}
 use native.Mathlib.Omega.{arith}
 use borrow.Author.Needs.{needs}
-use Rattle.walk.specs.Turn.{Marked, kept, marked}
+use Rattle.hall.specs.Limits.{nodeLimit}
+use Rattle.walk.specs.Turn.{kept, marked}
 use Rattle.walk.proofs.WalkRoom.{room-next}
 use Rattle.walk.proofs.mark.Statement.{statement}
 use Rattle.walk.proofs.mark.Tie as tie
@@ -22,7 +23,7 @@ slice-read-old : tie.Need-slice-read-old
 slice-read-old c = search needs
 
 -- where the code stores, the list has a place left
-place-left : (c : tie.Else3) → c .before .before .before .before .args .tail < 1024
+place-left : (c : tie.Else3) → c .before .before .before .before .args .tail < nodeLimit
 place-left c =
     let start = c .before .before .before .before in
     omega (arith, start .pre .few, room-next (start .pre) (start .args .b) (omega arith) (c .if3 .left))

@@ -1,11 +1,13 @@
--- `walk::reach` meets its contract. The invariant is `Waiting`: the listed nodes before `head` had their turn. The measure is the number of nodes that had
--- none; it falls because at most as many nodes are listed as there are. Assumes nothing.
-use mathlib.Core.Path.{_≡_, refl, _∙_}
-use Prim.Native.Nat.{ℕ, _+_, _-_, _≤_, _<_}
+-- `walk::reach` meets its contract. The invariant is `Waiting`: the listed nodes before `head` had their
+-- turn. The measure is the number of nodes that had none; it falls because at most as many nodes are listed
+-- as there are. Assumes nothing.
+use mathlib.Core.Path.{refl, _∙_}
+use Prim.Native.Nat.{_-_, _<_}
 use native.Mathlib.Omega.{arith}
 use borrow.Author.Needs.{needs}
-use lib.ListN.{length, getD, set, replicate, getD-replicate}
-use Rattle.walk.specs.Chain.{Front, Unlinked, Chained}
+use lib.ListN.{getD, set}
+use Rattle.hall.specs.Floor.{networkOf}
+use Rattle.walk.specs.Chain.{Front, Chained}
 use Rattle.walk.proofs.WalkRoom.{room-tail}
 use Rattle.walk.proofs.WalkChain.{unlinked-zeros}
 use Rattle.walk.proofs.WalkWaiting.{Waiting, waiting-small}
@@ -15,7 +17,7 @@ use Rattle.walk.proofs.reach.Tie as tie
 
 abbrev Inv-loop : tie.InvT-loop
 Inv-loop nodes lanes source row₀ first n chain list₀ head₀ tail₀ row list head tail =
-    Waiting nodes lanes source row₀ row list head tail × Front lanes n × Chained nodes lanes n chain
+    Waiting (networkOf nodes lanes) source row₀ row list head tail × Front lanes n × Chained (networkOf nodes lanes) n chain
 
 abbrev μ-loop : tie.MeasureT-loop
 μ-loop nodes lanes source row₀ first n chain list₀ head₀ tail₀ row list head tail = nodes - head
@@ -54,7 +56,7 @@ row-begun c =
 loop-holds : tie.Need-loop-holds Inv-loop μ-loop
 loop-holds c =
     let start = entry c in (
-      waiting-first (start .pre) (row-begun c) _ refl refl (start .args .lanes .now),
+      waiting-first (start .pre) (row-begun c) _ refl refl,
       c .before .before .before .before .before .before .front .ensures,
       c .before .before .before .before .link .ensures,
     )
@@ -71,7 +73,8 @@ turn-requires c κs =
     let w = loop .inv .0 in
     let waits : loop .head < loop .tail = omega arith in
     let node = w .room .stand (loop .head) waits in
-    (w .room, loop .inv .1, loop .inv .2, node, waiting-small w (getD (loop .list) (loop .head) 0) node (w .room .labelled (loop .head) waits))
+    let small = waiting-small w (getD (loop .list) (loop .head) 0) node (w .room .labelled (loop .head) waits) in
+    (w .room, loop .inv .1, loop .inv .2, node, omega (arith, small))
 
 add-head : tie.Need-add-head Inv-loop μ-loop
 add-head c =

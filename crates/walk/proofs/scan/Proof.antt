@@ -1,15 +1,15 @@
--- `walk::scan` meets its contract. The invariant is `Turning`: the lanes from place n to place i are done in both directions. The measure is what is left of
--- the lane list. Assumes nothing.
-use mathlib.Core.Path.{_≡_, refl, _∙_}
-use Prim.Native.Nat.{ℕ, _+_, _-_, _*_, _≤_, _<_}
+-- `walk::scan` meets its contract. The invariant is `Turning`: the lanes from place n to place i are done in
+-- both directions. The measure is what is left of the lane list. Assumes nothing.
+use Prim.Native.Nat.{_-_, _≤_}
 use native.Mathlib.Omega.{arith}
-use lib.ListN.{length, getD, set, length-set}
+use Rattle.hall.specs.Floor.{networkOf}
 use Rattle.walk.proofs.WalkTurn.{Turning, turning-none, turning-lane, turning-all, room-marked}
 use Rattle.walk.proofs.scan.Statement.{statement}
 use Rattle.walk.proofs.scan.Tie as tie
 
 abbrev Inv-loop : tie.InvT-loop
-Inv-loop nodes lanes n u label row₀ list₀ tail count end₀ i₀ row list end i = (i ≤ count) × Turning nodes lanes u label n row₀ list₀ tail i row list end
+Inv-loop nodes lanes n u label row₀ list₀ tail count end₀ i₀ row list end i =
+    (i ≤ count) × Turning (networkOf nodes lanes) u label n row₀ list₀ tail i row list end
 
 abbrev μ-loop : tie.MeasureT-loop
 μ-loop nodes lanes n u label row₀ list₀ tail count end₀ i₀ row list end i = count - i
@@ -18,7 +18,7 @@ loop-holds : tie.Need-loop-holds Inv-loop μ-loop
 loop-holds c =
     let start = c .before .before in (
       start .pre .1 .within,
-      turning-none (start .args .lanes .now) (start .args .u) (start .args .label) (start .args .n) (start .pre .1 .whole) (start .pre .0),
+      turning-none (networkOf (start .args .nodes) (start .args .lanes .now)) (start .args .u) (start .args .label) (start .args .n) (start .pre .1 .whole) (start .pre .0),
     )
 
 add-loop : tie.Need-add-loop Inv-loop μ-loop

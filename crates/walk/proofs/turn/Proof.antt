@@ -1,8 +1,6 @@
--- `walk::turn` meets its contract: the chained lanes and then the others are done, and together they are all. Assumes nothing.
-use mathlib.Core.Path.{_≡_, refl}
-use Prim.Native.Nat.{ℕ, _+_, _≤_, _<_}
+-- `walk::turn` meets its contract: the chained lanes and then the others are done, and together they are all.
+-- Assumes nothing.
 use native.Mathlib.Omega.{arith}
-use lib.ListN.{length, getD}
 use Rattle.walk.proofs.WalkRoom.{room-grown}
 use Rattle.walk.proofs.WalkTurn.{turned-join}
 use borrow.Author.Needs.{needs}

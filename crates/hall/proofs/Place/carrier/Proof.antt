@@ -1,4 +1,5 @@
--- `hall::Place::carrier` meets its contract: past the end of the order `getD` answers 0, as the function does. Assumes nothing.
+-- `hall::Place::carrier` meets its contract: past the end of the order `getD` answers 0, as the function
+-- does. Assumes nothing.
 use borrow.Author.Needs.{needs}
 use mathlib.Core.Path.{sym}
 use lib.ListN.{List·getD-eq-default}

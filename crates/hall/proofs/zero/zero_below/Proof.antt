@@ -1,5 +1,5 @@
--- `hall::zero::zero_below` meets its contract. The invariant: the table so far is the one that came, with its first i places zero. The measure is what is
--- left of the places. Assumes nothing.
+-- `hall::zero::zero_below` meets its contract. The invariant: the table so far is the one that came, with its
+-- first i places zero. The measure is what is left of the places. Assumes nothing.
 use mathlib.Core.Path.{_≡_, refl, sym}
 use Prim.Native.Nat.{ℕ, _+_, _-_, _≤_, _<_}
 use native.Mathlib.Omega.{arith}

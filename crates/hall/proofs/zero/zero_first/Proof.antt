@@ -1,4 +1,5 @@
--- `hall::zero::zero_first` meets its contract: of a table that is shorter, all places are zeroed, which is the same. Assumes nothing.
+-- `hall::zero::zero_first` meets its contract: of a table that is shorter, all places are zeroed, which is
+-- the same. Assumes nothing.
 use borrow.Author.Needs.{needs}
 use mathlib.Core.Path.{_∙_}
 use native.Mathlib.Nat.{le-of-lt}

@@ -1,37 +1,61 @@
--- `network::checks::check_job` meets its contract: the sections one after the other. A section's refusal is the job's first fault, since what comes before
--- is settled; a sound section settles its turn, and after the order's there is no check. Assumes nothing.
-use Rattle.hall.specs.Job.{Numbers}
-use Rattle.hall.specs.Refusals.{Checks, None}
-use Rattle.network.proofs.Sections.{Before, section-refused, section-passed, section-last}
-use Rattle.network.proofs.Whole.{counts-section, lanes-section, moves-section, order-section, none-listed-before, none-listed-after}
+-- `network::checks::check_job` meets its contract: the counts, the lanes, the moves and the order one after
+-- the other. A refusal is that of the stages up to it, behind those that were sound; the order's answer comes
+-- behind all others. Assumes nothing.
+use mathlib.Core.List.{[], _∷_, _++_}
 use borrow.Author.Needs.{needs}
+use lib.ListN.{length}
+use Rattle.hall.specs.Floor.{networkOf}
+use Rattle.hall.specs.Job.{Numbers, jobOf, carriers}
+use Rattle.hall.specs.Stages.{Question, None}
+use Rattle.hall.specs.Questions.{counts, eachLane, eachMove, eachOrderPlace}
+use Rattle.hall.proofs.Compose.{none-append, sound-none, judged-stop, judged-after}
 use Rattle.network.proofs.checks.check_job.Statement.{statement}
 use Rattle.network.proofs.checks.check_job.Tie as tie
 
--- the job that is checked
+-- the job that is checked, and its stages by the callee that asks them
 abbrev job : tie.Start → Numbers
-job c = record { nodes = c .args .nodes; lanes = c .args .lanes .now; moves = c .args .moves .now; order = c .args .order .now }
+job s = jobOf (networkOf (s .args .nodes) (s .args .lanes .now)) (s .args .moves .now) (s .args .order .now)
 
--- what is settled after each section that was sound
-counts-passed : (c : tie.After-enum-told2) → None (Before 3 (Checks (job (c .before .before .before .before .before .before))))
+abbrev counted-by : Numbers → Question
+counted-by j = counts (j .network .nodes) (length (j .network .lanes)) (carriers j) (length (j .order))
+
+abbrev lanes-of : Numbers → Question
+lanes-of j = eachLane (j .network) ∷ []
+
+abbrev moves-of : Numbers → Question
+moves-of j = eachMove (j .network) (j .moves) ∷ []
+
+abbrev order-of : Numbers → Question
+order-of j = eachOrderPlace (carriers j) (j .order) ∷ []
+
+-- what is sound after each callee that was
+abbrev begun : tie.After-enum-told2 → tie.Start
+begun c = c .before .before .before .before .before .before
+
+counts-passed : (c : tie.After-enum-told2) → None (counted-by (job (begun c)))
 counts-passed c =
-    let counts = c .before .before in
-    let j = job (counts .before .before .before .before) in
-    section-passed (counts-section j) (none-listed-before j) (c .enum-told2 .given .1) (counts .check-counts .ensures)
+    let counted = c .before .before in
+    sound-none (counted-by (job (begun c))) (c .enum-told2 .given .1) (counted .check-counts .ensures)
 
-lanes-passed : (c : tie.After-enum-told4) → None (Before 4 (Checks (job (c .before .before .before .before .before .before .before .before .before))))
+lanes-passed : (c : tie.After-enum-told4) →
+    let j = job (begun (c .before .before .before)) in
+    None (counted-by j ++ lanes-of j)
 lanes-passed c =
-    let lanes = c .before .before in
-    let sound = lanes .before in
-    let j = job (sound .before .before .before .before .before .before) in
-    section-passed (lanes-section j) (counts-passed sound) (c .enum-told4 .given .1) (lanes .check-lanes .ensures)
+    let checked = c .before .before in
+    let sound = checked .before in
+    let j = job (begun sound) in
+    none-append (counts-passed sound)
+    (sound-none (lanes-of j) (c .enum-told4 .given .1) (checked .check-lanes .ensures))
 
-moves-passed : (c : tie.After-enum-told6) → None (Before 5 (Checks (job (c .before .before .before .before .before .before .before .before .before .before .before .before))))
+moves-passed : (c : tie.After-enum-told6) →
+    let j = job (begun (c .before .before .before .before .before .before)) in
+    None ((counted-by j ++ lanes-of j) ++ moves-of j)
 moves-passed c =
-    let moves = c .before .before in
-    let sound = moves .before in
-    let j = job (sound .before .before .before .before .before .before .before .before .before) in
-    section-passed (moves-section j) (lanes-passed sound) (c .enum-told6 .given .1) (moves .check-moves .ensures)
+    let checked = c .before .before in
+    let sound = checked .before in
+    let j = job (begun (sound .before .before .before)) in
+    none-append (lanes-passed sound)
+    (sound-none (moves-of j) (c .enum-told6 .given .1) (checked .check-moves .ensures))
 
 check-counts-requires : tie.Need-check-counts-requires
 check-counts-requires c κs = search needs
@@ -41,9 +65,10 @@ enum-told c = search needs
 
 returns : tie.Need-returns
 returns c =
-    let counts = c .before .before in
-    let j = job (counts .before .before .before .before) in
-    section-refused (counts-section j) (none-listed-before j) (c .enum-told .given .1) (counts .check-counts .ensures)
+    let counted = c .before .before in
+    let j = job (counted .before .before .before .before) in
+    judged-stop (counted-by j) (lanes-of j ++ (moves-of j ++ order-of j)) (c .enum-told .given .1)
+    (counted .check-counts .ensures)
 
 enum-told-2 : tie.Need-enum-told-2
 enum-told-2 c = search needs
@@ -56,10 +81,12 @@ enum-told-3 c = search needs
 
 returns-2 : tie.Need-returns-2
 returns-2 c =
-    let lanes = c .before .before in
-    let sound = lanes .before in
-    let j = job (sound .before .before .before .before .before .before) in
-    section-refused (lanes-section j) (counts-passed sound) (c .enum-told3 .given .1) (lanes .check-lanes .ensures)
+    let checked = c .before .before in
+    let sound = checked .before in
+    let j = job (begun sound) in
+    judged-stop (counted-by j ++ lanes-of j) (moves-of j ++ order-of j) (c .enum-told3 .given .1)
+    (judged-after (counted-by j) (lanes-of j) (counts-passed sound) (checked .check-lanes .result)
+    (checked .check-lanes .ensures))
 
 enum-told-4 : tie.Need-enum-told-4
 enum-told-4 c = search needs
@@ -72,10 +99,13 @@ enum-told-5 c = search needs
 
 returns-3 : tie.Need-returns-3
 returns-3 c =
-    let moves = c .before .before in
-    let sound = moves .before in
-    let j = job (sound .before .before .before .before .before .before .before .before .before) in
-    section-refused (moves-section j) (lanes-passed sound) (c .enum-told5 .given .1) (moves .check-moves .ensures)
+    let checked = c .before .before in
+    let sound = checked .before in
+    let j = job (begun (sound .before .before .before)) in
+    let before = counted-by j ++ lanes-of j in
+    judged-stop (before ++ moves-of j) (order-of j) (c .enum-told5 .given .1)
+    (judged-after before (moves-of j) (lanes-passed sound) (checked .check-moves .result)
+    (checked .check-moves .ensures))
 
 enum-told-6 : tie.Need-enum-told-6
 enum-told-6 c = search needs
@@ -86,8 +116,10 @@ check-order-requires c κs = search needs
 returns-4 : tie.Need-returns-4
 returns-4 c =
     let sound = c .before in
-    let j = job (sound .before .before .before .before .before .before .before .before .before .before .before .before) in
-    section-last (order-section j) (moves-passed sound) (none-listed-after j) (c .check-order .result) (c .check-order .ensures)
+    let j = job (begun (sound .before .before .before .before .before .before)) in
+    judged-after ((counted-by j ++ lanes-of j) ++ moves-of j) (order-of j) (moves-passed sound)
+    (c .check-order .result)
+    (c .check-order .ensures)
 
 pub check-job-spec : {M : Type 1} → statement M
 check-job-spec =

@@ -1,40 +1,38 @@
--- `network::checks::check_lanes` meets its contract. The invariant: none of the lanes before lane k is faulty. The measure is how many lanes are left.
--- Assumes nothing.
+-- `network::checks::check_lanes` meets its contract. The invariant: the lanes before lane k are passed. The
+-- measure is how many are left. Assumes nothing.
 use mathlib.Core.Path.{_≡_, refl}
-use Prim.Native.Nat.{ℕ, _-_, _≤_, _<_}
+use Prim.Native.Nat.{_-_, _≤_}
 use native.Mathlib.Omega.{arith}
 use borrow.Author.Needs.{needs}
-use borrow.Author.Count.{below-more}
-use Rattle.hall.specs.declared.Fault.the-variants.{BadLane}
-use Rattle.hall.specs.Floor.{laneCount}
-use Rattle.hall.specs.Refusals.{LaneFault}
-use Rattle.network.proofs.Places.{told, told-not, place-refused, places-sound}
-use Rattle.network.proofs.Sections.{answered}
+use Rattle.hall.specs.Floor.{networkOf, laneCount}
+use Rattle.hall.specs.Questions.{laneChecks, eachLane}
+use Rattle.hall.proofs.Places.{Passed, loop-begins, stage-refuses, loop-passes, stage-ends}
 use Rattle.network.proofs.checks.check_lanes.Statement.{statement}
 use Rattle.network.proofs.checks.check_lanes.Tie as tie
 
 abbrev Inv-loop : tie.InvT-loop
-Inv-loop nodes lanes count k₀ k = (count ≡ laneCount lanes) × (k ≤ count) × ((j : ℕ) → j < k → ¬ LaneFault nodes lanes j)
+Inv-loop nodes lanes count k₀ k =
+    (count ≡ laneCount lanes) × (k ≤ count) × Passed (eachLane (networkOf nodes lanes)) k
 
 abbrev μ-loop : tie.MeasureT-loop
 μ-loop nodes lanes count k₀ k = count - k
 
 loop-holds : tie.Need-loop-holds Inv-loop μ-loop
-loop-holds c = (refl, omega arith, λ j l f. omega arith)
+loop-holds c = (refl, omega arith, loop-begins _)
 
-lane-fault-requires : tie.Need-lane-fault-requires Inv-loop μ-loop
-lane-fault-requires c κs = search needs
+check-lane-requires : tie.Need-check-lane-requires Inv-loop μ-loop
+check-lane-requires c κs = search needs
 
-refused-requires : tie.Need-refused-requires Inv-loop μ-loop
-refused-requires c κs = search needs
+enum-told : tie.Need-enum-told Inv-loop μ-loop
+enum-told c = search needs
 
 returns : tie.Need-returns Inv-loop μ-loop
 returns c =
-    let told-bad = c .before in
-    let in-loop = told-bad .before .before in
-    let loop = in-loop .before in
-    answered (c .refused .ensures)
-    (place-refused BadLane (laneCount (loop .before .before .args .lanes .now)) (in-loop .loop-test .taken) (loop .loop .inv .2) (told (told-bad .if1 .taken) (told-bad .before .lane-fault .ensures)))
+    let one = c .before .before in
+    stage-refuses (one .before .before .loop .inv .2) (c .enum-told .given .1) (one .check-lane .ensures)
+
+enum-told-2 : tie.Need-enum-told-2 Inv-loop μ-loop
+enum-told-2 c = search needs
 
 add-k : tie.Need-add-k Inv-loop μ-loop
 add-k c = search needs
@@ -44,13 +42,15 @@ loop-less c = search needs
 
 loop-again : tie.Need-loop-again Inv-loop μ-loop
 loop-again c =
-    let loop = c .before .before .before in
-    (refl, omega arith, below-more _ _ (loop .loop .inv .2) (told-not (c .if1 .left) (c .before .lane-fault .ensures)))
+    let one = c .before .before in
+    let passed = one .before .before .loop .inv .2 in
+    (refl, omega arith, loop-passes passed (c .enum-told2 .given .1) (one .check-lane .ensures))
 
 returns-2 : tie.Need-returns-2 Inv-loop μ-loop
 returns-2 c =
-    let loop = c .before in
-    places-sound BadLane (laneCount (loop .before .before .args .lanes .now)) (loop .loop .inv .2) (c .loop-test .left)
+    let args = c .before .before .before .args in
+    let N = networkOf (args .nodes) (args .lanes .now) in
+    stage-ends (laneChecks N) (c .loop-test .left) (c .before .loop .inv .2)
 
 pub check-lanes-spec : {M : Type 1} → statement M
 check-lanes-spec =
@@ -59,9 +59,10 @@ check-lanes-spec =
     Inv-loop
     μ-loop
     loop-holds
-    lane-fault-requires
-    refused-requires
+    check-lane-requires
+    enum-told
     returns
+    enum-told-2
     add-k
     loop-less
     loop-again

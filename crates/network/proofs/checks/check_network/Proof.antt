@@ -1,10 +1,26 @@
--- `network::checks::check_network` meets its contract: the counts, then the lanes, and a job without carriers has no check after these. Assumes nothing.
-use Rattle.network.specs.Checks.{noMoves}
-use Rattle.network.proofs.Sections.{section-refused, section-passed, section-last}
-use Rattle.network.proofs.Whole.{counts-section, lanes-section, none-listed-before, none-after-lanes}
+-- `network::checks::check_network` meets its contract: the counts, which for a network are those of a job
+-- without carriers, then the lanes. Assumes nothing.
+use mathlib.Core.List.{[], _∷_}
 use borrow.Author.Needs.{needs}
+use lib.ListN.{length}
+use Rattle.hall.specs.Floor.{networkOf}
+use Rattle.hall.specs.Stages.{Question}
+use Rattle.hall.specs.Said.{Judged}
+use Rattle.hall.specs.Questions.{nodesCount, lanesCount, eachLane}
+use Rattle.hall.proofs.Compose.{judged-stop, judged-then, ⇒-judged}
+use Rattle.network.proofs.Questions.{counts-of-network}
 use Rattle.network.proofs.checks.check_network.Statement.{statement}
 use Rattle.network.proofs.checks.check_network.Tie as tie
+
+-- the counts of a network, and its lanes
+abbrev counts : tie.Start → Question
+counts s = nodesCount (s .args .nodes) ∷ lanesCount (length (s .args .lanes .now)) ∷ []
+
+abbrev lanes : tie.Start → Question
+lanes s = eachLane (networkOf (s .args .nodes) (s .args .lanes .now)) ∷ []
+
+counts-judged : (c : tie.After-check-counts) → Judged (counts (c .before .before)) (c .check-counts .result)
+counts-judged c = ⇒-judged (counts-of-network _ _) (c .check-counts .result) (c .check-counts .ensures)
 
 check-counts-requires : tie.Need-check-counts-requires
 check-counts-requires c κs = search needs
@@ -14,9 +30,9 @@ enum-told c = search needs
 
 returns : tie.Need-returns
 returns c =
-    let args = c .before .before .before .before .args in
-    let job = noMoves (args .nodes) (args .lanes .now) in
-    section-refused (counts-section job) (none-listed-before job) (c .enum-told .given .1) (c .before .before .check-counts .ensures)
+    let counted = c .before .before in
+    let s = counted .before .before in
+    judged-stop (counts s) (lanes s) (c .enum-told .given .1) (counts-judged counted)
 
 enum-told-2 : tie.Need-enum-told-2
 enum-told-2 c = search needs
@@ -26,11 +42,11 @@ check-lanes-requires c κs = search needs
 
 returns-2 : tie.Need-returns-2
 returns-2 c =
-    let counts = c .before .before .before in
-    let args = counts .before .before .args in
-    let job = noMoves (args .nodes) (args .lanes .now) in
-    let passed = section-passed (counts-section job) (none-listed-before job) (c .before .enum-told2 .given .1) (counts .check-counts .ensures) in
-    section-last (lanes-section job) passed (none-after-lanes (args .nodes) (args .lanes .now)) (c .check-lanes .result) (c .check-lanes .ensures)
+    let counted = c .before .before .before in
+    let s = counted .before .before in
+    judged-then (counts s) (lanes s) (c .before .enum-told2 .given .1) (counts-judged counted)
+    (c .check-lanes .result)
+    (c .check-lanes .ensures)
 
 pub check-network-spec : {M : Type 1} → statement M
 check-network-spec =

@@ -1,9 +1,16 @@
--- `network::checks::lane_fault` meets its contract: the four numbers are read from the list, and each return cites the law of its case. Assumes nothing.
-use Rattle.network.proofs.Lanes.{bad-ends, first-lane-sound, rising-lane-sound, falling-lane-bad}
-use Rattle.network.proofs.Places.{told, told-not}
+-- `network::checks::lane_fault` meets its contract: the four numbers are read from the list, and each return
+-- cites the law of its case. Assumes nothing.
+use Rattle.hall.specs.Floor.{Network, networkOf}
+use Rattle.hall.proofs.Answers.{affirmed, denied}
+use Rattle.network.proofs.Lanes.{Above, bad-ends, first-lane-sound}
+use Rattle.network.proofs.Lanes.{rising-lane-sound, falling-lane-bad}
 use borrow.Author.Needs.{needs}
 use Rattle.network.proofs.checks.lane_fault.Statement.{statement}
 use Rattle.network.proofs.checks.lane_fault.Tie as tie
+
+-- the network that is checked
+abbrev network : tie.Start → Network
+network c = networkOf (c .args .nodes) (c .args .lanes .now)
 
 mul-at : tie.Need-mul-at
 mul-at c = search needs
@@ -37,8 +44,10 @@ returns c =
     let high = c .before .before in
     let low = high .before .before in
     let start = low .before .before .before in
-    bad-ends (start .args .nodes) (start .args .lanes .now) (start .args .k) (low .wide .result) (high .wide2 .result) (low .wide .ensures) (high .wide2 .ensures)
-    (told (c .if1 .taken) (c .before .ends-fault .ensures))
+    bad-ends (network start) (start .args .k) (low .wide .result) (high .wide2 .result)
+    (low .wide .ensures)
+    (high .wide2 .ensures)
+    (affirmed _ (c .if1 .taken) (c .before .ends-fault .ensures))
 
 returns-2 : tie.Need-returns-2
 returns-2 c =
@@ -46,8 +55,10 @@ returns-2 c =
     let high = ends .before in
     let low = high .before .before in
     let start = low .before .before .before in
-    first-lane-sound (start .args .nodes) (start .args .lanes .now) (start .args .k) (low .wide .result) (high .wide2 .result) (low .wide .ensures) (high .wide2 .ensures)
-    (told-not (c .before .if1 .left) (ends .ends-fault .ensures))
+    first-lane-sound (network start) (start .args .k) (low .wide .result) (high .wide2 .result)
+    (low .wide .ensures)
+    (high .wide2 .ensures)
+    (denied _ (c .before .if1 .left) (ends .ends-fault .ensures))
     (c .if2 .taken)
 
 sub-wide : tie.Need-sub-wide
@@ -86,14 +97,16 @@ returns-3 c =
     let high = ends .before in
     let low = high .before .before in
     let start = low .before .before .before in
-    rising-lane-sound (start .args .nodes) (start .args .lanes .now) (start .args .k) (low .wide .result) (high .wide2 .result) (low .wide .ensures) (high .wide2 .ensures)
+    rising-lane-sound (network start) (start .args .k) (low .wide .result) (high .wide2 .result)
+    (low .wide .ensures)
+    (high .wide2 .ensures)
     (low₀ .wide3 .result)
     (high₀ .wide4 .result)
     (low₀ .wide3 .ensures)
     (high₀ .wide4 .ensures)
     (later .if2 .left)
-    (told-not (later .before .if1 .left) (ends .ends-fault .ensures))
-    (told (c .if3 .taken) (c .before .rises .ensures))
+    (denied _ (later .before .if1 .left) (ends .ends-fault .ensures))
+    (affirmed _ {A = Above _ _ _ _} (c .if3 .taken) (c .before .rises .ensures))
 
 returns-4 : tie.Need-returns-4
 returns-4 c =
@@ -104,13 +117,15 @@ returns-4 c =
     let high = ends .before in
     let low = high .before .before in
     let start = low .before .before .before in
-    falling-lane-bad (start .args .nodes) (start .args .lanes .now) (start .args .k) (low .wide .result) (high .wide2 .result) (low .wide .ensures) (high .wide2 .ensures)
+    falling-lane-bad (network start) (start .args .k) (low .wide .result) (high .wide2 .result)
+    (low .wide .ensures)
+    (high .wide2 .ensures)
     (low₀ .wide3 .result)
     (high₀ .wide4 .result)
     (low₀ .wide3 .ensures)
     (high₀ .wide4 .ensures)
     (later .if2 .left)
-    (told-not (c .if3 .left) (c .before .rises .ensures))
+    (denied _ {A = Above _ _ _ _} (c .if3 .left) (c .before .rises .ensures))
 
 pub lane-fault-spec : {M : Type 1} → statement M
 lane-fault-spec =

@@ -1,5 +1,6 @@
--- `report::print::put_number` meets its contract. It calls itself at the number's tenth, so the measure is the number; the digits of the tenth and the last one
--- behind them are the digits of the number. Assumes nothing.
+-- `report::print::put_number` meets its contract. It calls itself at the number's tenth, so the measure is
+-- the number; the digits of the tenth and the last one behind them are the digits of the number. Assumes
+-- nothing.
 use Prim.Native.Nat.{ℕ, _<_}
 use native.Mathlib.Omega.{arith}
 use borrow.Author.Needs.{needs}

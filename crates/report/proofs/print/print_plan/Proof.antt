@@ -1,5 +1,6 @@
--- `report::print::print_plan` meets its contract: a word, a field, the carriers' lines, a word and a field, one behind the other, at the front of bytes that have
--- room for them. Where a test fails, no plan can be asked for. Assumes nothing.
+-- `report::print::print_plan` meets its contract: a word, a field, the carriers' lines, a word and a field,
+-- one behind the other, at the front of bytes that have room for them. Where a test fails, no plan can be
+-- asked for. Assumes nothing.
 use mathlib.Core.Path.{refl}
 use mathlib.Core.List.{List}
 use Prim.Native.Nat.{ℕ}

@@ -1,4 +1,5 @@
--- `report::print::print_refused` meets its contract: the word and two fields, one behind the other, at the front of bytes that have room for them. Assumes nothing.
+-- `report::print::print_refused` meets its contract: the word and two fields, one behind the other, at the
+-- front of bytes that have room for them. Assumes nothing.
 use mathlib.Core.Path.{refl}
 use borrow.Author.Needs.{needs}
 use Rattle.report.specs.Printed.{refusedText}
@@ -11,7 +12,8 @@ use Rattle.report.proofs.print.print_refused.Tie as tie
 returns : tie.Need-returns
 returns c = RefusedPrinting.nothing (c .if1 .taken) (record { bytes = refl; size = refl })
 
-fits : (c : tie.Else1) → Room 0 (refusedText (c .before .before .args .number) (c .before .before .args .line)) (c .before .before .args .out .now)
+fits : (c : tie.Else1) →
+    Room 0 (refusedText (c .before .before .args .number) (c .before .before .args .line)) (c .before .before .args .out .now)
 fits c =
     let start = c .before .before in
     refused-room (start .args .number) (start .args .line) (start .fits .number .fits) (start .fits .line .fits) (c .if1 .left)

@@ -1,5 +1,5 @@
--- `report::print::put_carriers` meets its contract. The invariant: the lines of the carriers passed stand from the place on. The measure is how many carriers are
--- left. Assumes nothing.
+-- `report::print::put_carriers` meets its contract. The invariant: the lines of the carriers passed stand
+-- from the place on. The measure is how many carriers are left. Assumes nothing.
 use mathlib.Core.Path.{_≡_}
 use Prim.Native.Nat.{_-_, _≤_}
 use native.Mathlib.Omega.{arith}

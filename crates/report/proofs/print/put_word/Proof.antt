@@ -1,18 +1,18 @@
--- `report::print::put_word` meets its contract. The invariant: the first i bytes of the word stand from the place on. The measure is what is left of the word.
--- Assumes nothing.
+-- `report::print::put_word` meets its contract. The invariant: the first i bytes of the word stand from the
+-- place on. The measure is what is left of the word. Assumes nothing.
 use mathlib.Core.Path.{_≡_, refl, sym}
 use Prim.Native.Nat.{_+_, _-_, _≤_, _<_}
 use native.Mathlib.Omega.{arith}
 use borrow.Author.Needs.{needs}
 use lib.ListN.{length, take, length-set}
 use lib.Seq.{take-length}
-use Rattle.report.specs.Printing.{written}
+use Rattle.report.specs.Printing.{overwritten}
 use Rattle.report.proofs.Append.{written-none, written-next}
 use Rattle.report.proofs.print.put_word.Statement.{statement}
 use Rattle.report.proofs.print.put_word.Tie as tie
 
 abbrev Inv-loop : tie.InvT-loop
-Inv-loop word out₀ at n i₀ out i = (i ≤ n) × (n ≡ length word) × (at + n ≤ length out₀) × (length out ≡ length out₀) × (out ≡ written at (take i word) out₀)
+Inv-loop word out₀ at n i₀ out i = (i ≤ n) × (n ≡ length word) × (at + n ≤ length out₀) × (length out ≡ length out₀) × (out ≡ overwritten at (take i word) out₀)
 
 abbrev μ-loop : tie.MeasureT-loop
 μ-loop word out₀ at n i₀ out i = n - i

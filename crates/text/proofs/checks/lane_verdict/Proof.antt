@@ -1,4 +1,5 @@
--- `text::checks::lane_verdict` meets its contract: at each `return` the tests that led there say what holds of the lane. Assumes nothing.
+-- `text::checks::lane_verdict` meets its contract: at each `return` the tests that led there say what holds
+-- of the lane. Assumes nothing.
 use mathlib.Core.Path.{sym, _∙_}
 use Rattle.text.proofs.Verdicts.{lane-low-off, lane-high-off, lane-turned, lane-not-rising, lane-fine}
 use borrow.Author.Needs.{needs}

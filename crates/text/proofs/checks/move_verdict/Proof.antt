@@ -1,4 +1,5 @@
--- `text::checks::move_verdict` meets its contract: at each `return` the tests that led there say what holds of the move. Assumes nothing.
+-- `text::checks::move_verdict` meets its contract: at each `return` the tests that led there say what holds
+-- of the move. Assumes nothing.
 use mathlib.Core.Path.{sym, _∙_}
 use Rattle.text.proofs.Verdicts.{move-start-off, move-goal-off, move-same-ends, move-shared, move-fine}
 use borrow.Author.Needs.{needs}

@@ -1,4 +1,5 @@
--- `text::checks::not_rising` meets its contract: at each `return` the tests that led there say how the lane stands to the one before. Assumes nothing.
+-- `text::checks::not_rising` meets its contract: at each `return` the tests that led there say how the lane
+-- stands to the one before. Assumes nothing.
 use mathlib.Core.Path.{sym}
 use Rattle.text.proofs.Verdicts.{rising-first, rising-lower, rising-tie, rising-none}
 use borrow.Author.Needs.{needs}

@@ -1,4 +1,5 @@
--- `text::checks::order_verdict` meets its contract: at each `return` the tests that led there say what holds of the entry. Assumes nothing.
+-- `text::checks::order_verdict` meets its contract: at each `return` the tests that led there say what holds
+-- of the entry. Assumes nothing.
 use mathlib.Core.Path.{sym, _∙_}
 use Rattle.text.proofs.Verdicts.{order-no-carrier, order-again, order-fine}
 use borrow.Author.Needs.{needs}

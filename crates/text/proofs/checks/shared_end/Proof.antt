@@ -1,5 +1,5 @@
--- `text::checks::shared_end` meets its contract. The invariant: no carrier before e shares an end with carrier i. The measure is how many are left to be
--- looked at. Assumes nothing.
+-- `text::checks::shared_end` meets its contract. The invariant: no carrier before e shares an end with
+-- carrier i. The measure is how many are left to be looked at. Assumes nothing.
 use mathlib.Core.Path.{_≡_, refl, sym}
 use mathlib.Core.Bool.{false}
 use Prim.Native.Nat.{ℕ, _-_, _≤_}

@@ -1,5 +1,5 @@
--- `text::checks::stands_earlier` meets its contract. The invariant: the entry stands at no place before q. The measure is how many places are left to be
--- looked at. Assumes nothing.
+-- `text::checks::stands_earlier` meets its contract. The invariant: the entry stands at no place before q.
+-- The measure is how many places are left to be looked at. Assumes nothing.
 use mathlib.Core.Path.{_≡_, refl, sym}
 use mathlib.Core.Bool.{false}
 use Prim.Native.Nat.{ℕ, _-_, _≤_}

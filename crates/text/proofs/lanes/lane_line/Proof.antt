@@ -1,4 +1,5 @@
--- `text::lanes::lane_line` meets its contract: the line lacks its form, or its two numbers stand in the table and the checks of the lane decide. Assumes nothing.
+-- `text::lanes::lane_line` meets its contract: the line lacks its form, or its two numbers stand in the table
+-- and the checks of the lane decide. Assumes nothing.
 use mathlib.Core.Path.{sym, _∙_}
 use denote.Ref.{now}
 use lib.ListN.{drop}

@@ -1,5 +1,5 @@
--- `text::lanes::lane_lines` meets its contract. The invariant is `LinesSoFar`: what is left to be read gives what the whole was to give. The measure is how many
--- lines are left. Assumes nothing.
+-- `text::lanes::lane_lines` meets its contract. The invariant is `LinesSoFar`: what is left to be read gives
+-- what the whole was to give. The measure is how many lines are left. Assumes nothing.
 use mathlib.Core.Path.{refl, sym, _∙_}
 use Prim.Native.Nat.{ℕ, _*_, _-_, _≤_, _<_}
 use native.Mathlib.Omega.{arith}

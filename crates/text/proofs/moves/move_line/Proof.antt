@@ -1,4 +1,5 @@
--- `text::moves::move_line` meets its contract: the line lacks its form, or its two numbers stand in the table and the checks of the move decide. Assumes nothing.
+-- `text::moves::move_line` meets its contract: the line lacks its form, or its two numbers stand in the table
+-- and the checks of the move decide. Assumes nothing.
 use mathlib.Core.Path.{sym, _∙_}
 use denote.Ref.{now}
 use lib.ListN.{drop}

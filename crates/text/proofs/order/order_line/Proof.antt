@@ -1,5 +1,5 @@
--- `text::order::order_line` meets its contract: the line lacks its form, or its number stands in the table and the check of the entry decides. Assumes
--- nothing.
+-- `text::order::order_line` meets its contract: the line lacks its form, or its number stands in the table
+-- and the check of the entry decides. Assumes nothing.
 use mathlib.Core.Path.{sym, _∙_}
 use denote.Ref.{now}
 use lib.ListN.{drop}

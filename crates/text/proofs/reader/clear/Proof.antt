@@ -1,5 +1,5 @@
--- `text::reader::clear` meets its contract. The invariant is `WipedSoFar`: from the first place up to i the table is zero. The measure is how many places are
--- left. Assumes nothing.
+-- `text::reader::clear` meets its contract. The invariant is `WipedSoFar`: from the first place up to i the
+-- table is zero. The measure is how many places are left. Assumes nothing.
 use mathlib.Core.Path.{_≡_, refl, sym, _∙_, ap}
 use Prim.Native.Nat.{ℕ, _-_}
 use native.Mathlib.Omega.{arith}

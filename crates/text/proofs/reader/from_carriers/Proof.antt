@@ -1,4 +1,5 @@
--- `text::reader::from_carriers` meets its contract: the count, the moves, and what stands from `ORDER` on. Assumes nothing.
+-- `text::reader::from_carriers` meets its contract: the count, the moves, and what stands from `ORDER` on.
+-- Assumes nothing.
 use Prim.Native.Nat.{_≤_}
 use native.Mathlib.Omega.{arith}
 use denote.Ref.{now}

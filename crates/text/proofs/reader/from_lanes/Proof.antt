@@ -1,4 +1,5 @@
--- `text::reader::from_lanes` meets its contract: the count, the lanes, and what stands from `CARRIERS` on. Assumes nothing.
+-- `text::reader::from_lanes` meets its contract: the count, the lanes, and what stands from `CARRIERS` on.
+-- Assumes nothing.
 use Prim.Native.Nat.{_≤_}
 use native.Mathlib.Omega.{arith}
 use denote.Ref.{now}

@@ -1,4 +1,5 @@
--- `text::reader::from_order` meets its contract: the count, the entries and the end of the text, one after the other. Assumes nothing.
+-- `text::reader::from_order` meets its contract: the count, the entries and the end of the text, one after
+-- the other. Assumes nothing.
 use denote.Ref.{now}
 use lib.ListN.{drop}
 use Rattle.text.specs.Lines.{ORDER}

@@ -1,4 +1,5 @@
--- `text::reader::lanes_used` meets its contract: the counts of an accepted job are within the limits. Assumes nothing.
+-- `text::reader::lanes_used` meets its contract: the counts of an accepted job are within the limits. Assumes
+-- nothing.
 use mathlib.Core.Path.{sym, ap}
 use native.Mathlib.Omega.{arith}
 use Rattle.text.specs.Left.{usedLanes}

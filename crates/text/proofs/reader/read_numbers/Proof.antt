@@ -1,5 +1,5 @@
--- `text::reader::read_numbers` meets its contract: a table is too short; or the text was read into the tables, and each table was cleared behind what the answer
--- uses of it. Assumes nothing.
+-- `text::reader::read_numbers` meets its contract: a table is too short; or the text was read into the
+-- tables, and each table was cleared behind what the answer uses of it. Assumes nothing.
 use mathlib.Core.Path.{_≡_, sym, _∙_}
 use mathlib.Core.Bool.{false}
 use Prim.Native.Nat.{ℕ, _≤_}
@@ -8,7 +8,7 @@ use denote.Ref.{now}
 use lib.ListN.{length}
 use Rattle.text.specs.Reading.{reading}
 use Rattle.text.specs.Left.{short}
-use Rattle.text.proofs.Outcomes.{long-enough, refused-short, read-long, fit-lanes, fit-carriers, cleared-as}
+use Rattle.text.proofs.Outcomes.{Long, long-enough, refused-short, read-long, fit-lanes, fit-carriers, cleared-as}
 use borrow.Author.Needs.{needs}
 use Rattle.text.proofs.reader.read_numbers.Statement.{statement}
 use Rattle.text.proofs.reader.read_numbers.Tie as tie
@@ -17,12 +17,12 @@ use Rattle.text.proofs.reader.read_numbers.Tie as tie
 not-short : (c : tie.Else1) → let a = c .before .before .before .before .before .before .args in short (length (now (a .lanes))) (a .records) (length (now (a .moves))) (length (now (a .order))) ≡ false
 not-short c = sym (c .before .too-short .ensures) ∙ c .if1 .left
 
-long : (c : tie.Else1) → let a = c .before .before .before .before .before .before .args in (8192 ≤ length (now (a .lanes))) × (128 ≤ length (now (a .moves))) × (64 ≤ length (now (a .order)))
+long : (c : tie.Else1) → let a = c .before .before .before .before .before .before .args in Long (length (now (a .lanes))) (length (now (a .moves))) (length (now (a .order)))
 long c = long-enough _ _ _ _ (not-short c)
 
 -- nor is one after the reading
 still-long : (c : tie.After-read-text)
-    → (8192 ≤ length (c .read-text .last .1 .0)) × (128 ≤ length (c .read-text .last .1 .1 .0)) × (64 ≤ length (c .read-text .last .1 .1 .1 .0))
+    → Long (length (c .read-text .last .1 .0)) (length (c .read-text .last .1 .1 .0)) (length (c .read-text .last .1 .1 .1 .0))
 still-long c =
     let h = long (c .before .before .before .before) in
     let k = c .read-text .kept in
@@ -76,10 +76,9 @@ returns-2 : tie.Need-returns-2
 returns-2 c =
     let a = c .before .before .before .before .before .before .before .before .before .before .before .before .before .before .before .before .before .before .before .before .before .before .before .before .before .before .before .before .before .before .args in
     let s = c .before .before .before .before .before .before .before .before .before .before .before .before .before .before .before .before .before .before .before .before in
-    let h = still-long s in
-    read-long (now (a .text)) (now (a .lanes)) (a .records) (now (a .moves)) (now (a .order)) _ _ _ _ (not-short (c .before .before .before .before .before .before .before .before .before .before .before .before .before .before .before .before .before .before .before .before .before .before .before .before))
+    read-long (now (a .text)) (now (a .lanes)) (a .records) (now (a .moves)) (now (a .order)) (s .read-text .result) _ _ _ (not-short (c .before .before .before .before .before .before .before .before .before .before .before .before .before .before .before .before .before .before .before .before .before .before .before .before))
     (cleared-as (now (a .lanes)) (s .read-text .last .1 .0) (now (a .moves)) (s .read-text .last .1 .1 .0) (now (a .order)) (s .read-text .last .1 .1 .1 .0)
-    (h .0) (h .1) (h .2) (reading (now (a .text))) (s .read-text .result) (c .before .before .before .before .before .before .before .before .before .before .before .before .before .lanes-used .result) (c .before .before .before .before .before .before .before .before .before .before .before .before .carriers-used .result) _ _ _
+    (long (s .before .before .before .before)) (still-long s) (reading (now (a .text))) (s .read-text .result) (c .before .before .before .before .before .before .before .before .before .before .before .before .before .lanes-used .result) (c .before .before .before .before .before .before .before .before .before .before .before .before .carriers-used .result) _ _ _
     (s .read-text .ensures) (c .before .before .before .before .before .before .before .before .before .before .before .before .before .lanes-used .ensures) (c .before .before .before .before .before .before .before .before .before .before .before .before .carriers-used .ensures)
     (c .before .before .before .before .before .before .before .before .before .before .clear .ensures) (c .before .before .before .before .before .before .clear2 .ensures) (c .before .before .clear3 .ensures))
 

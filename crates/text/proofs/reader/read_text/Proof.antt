@@ -1,4 +1,5 @@
--- `text::reader::read_text` meets its contract: the line `NODES`, and what stands from `LANES` on. Assumes nothing.
+-- `text::reader::read_text` meets its contract: the line `NODES`, and what stands from `LANES` on. Assumes
+-- nothing.
 use denote.Ref.{now}
 use Rattle.text.specs.Lines.{NODES}
 use Rattle.text.proofs.ReadParts.{nodes-uncounted, nodes-read}

@@ -1,4 +1,5 @@
--- `text::sections::count_line` meets its contract: at each `return` the line's form and the tests that led there say what the line comes to. Assumes nothing.
+-- `text::sections::count_line` meets its contract: at each `return` the line's form and the tests that led
+-- there say what the line comes to. Assumes nothing.
 use mathlib.Core.Path.{sym}
 use denote.Ref.{now}
 use lib.ListN.{drop}

@@ -1,5 +1,5 @@
--- `text::bytes::Kind::of` meets its contract: the tests that led to an arm say where the byte lies, and the laws of ByteKinds.antt name its kind there.
--- Assumes nothing.
+-- `text::bytes::Kind::of` meets its contract: the tests that led to an arm say where the byte lies, and the
+-- laws of ByteKinds.antt name its kind there. Assumes nothing.
 use mathlib.Core.Path.{sym}
 use native.Mathlib.Omega.{arith}
 use Rattle.text.proofs.ByteKinds.{kind-digit, kind-space, kind-line-feed, kind-capital, kind-low, kind-between, kind-high}

@@ -1,4 +1,5 @@
--- `text::cursor::Cursor::count` meets its contract: each `return` stands behind the parts that were read. Assumes nothing.
+-- `text::cursor::Cursor::count` meets its contract: each `return` stands behind the parts that were read.
+-- Assumes nothing.
 use denote.Ref.{now}
 use lib.ListN.{drop}
 use Rattle.text.proofs.LineForms.{count-bad, count-alone, count-line}

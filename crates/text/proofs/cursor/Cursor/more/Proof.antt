@@ -1,5 +1,6 @@
--- `text::cursor::Cursor::more` meets its contract. The invariant is `DigitsSoFar`: what is left to be read from the cursor on gives what the whole was to
--- give. The measure is how many digits may still come. Assumes nothing.
+-- `text::cursor::Cursor::more` meets its contract. The invariant is `DigitsSoFar`: what is left to be read
+-- from the cursor on gives what the whole was to give. The measure is how many digits may still come. Assumes
+-- nothing.
 use mathlib.Core.Path.{refl}
 use Prim.Native.Nat.{ℕ, _≤_, _<_}
 use native.Mathlib.Omega.{arith}

@@ -1,4 +1,5 @@
--- `text::cursor::Cursor::number` meets its contract: no digit, the digit 0, or a digit with what `more` reads behind it. Assumes nothing.
+-- `text::cursor::Cursor::number` meets its contract: no digit, the digit 0, or a digit with what `more` reads
+-- behind it. Assumes nothing.
 use denote.Ref.{now}
 use lib.ListN.{drop}
 use Rattle.text.specs.declared.cursor.Numbered.{Numbered}

@@ -1,4 +1,5 @@
--- `text::cursor::Cursor::one` meets its contract: each `return` stands behind the parts that were read. Assumes nothing.
+-- `text::cursor::Cursor::one` meets its contract: each `return` stands behind the parts that were read.
+-- Assumes nothing.
 use Rattle.text.proofs.LineForms.{one-bad, one-open, one-line}
 use borrow.Author.Needs.{needs}
 use Rattle.text.proofs.cursor.Cursor.one.Statement.{statement}

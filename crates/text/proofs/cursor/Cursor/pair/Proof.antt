@@ -1,4 +1,5 @@
--- `text::cursor::Cursor::pair` meets its contract: each `return` stands behind the parts that were read. Assumes nothing.
+-- `text::cursor::Cursor::pair` meets its contract: each `return` stands behind the parts that were read.
+-- Assumes nothing.
 use Rattle.text.proofs.LineForms.{pair-bad, pair-alone, pair-open, pair-line}
 use borrow.Author.Needs.{needs}
 use Rattle.text.proofs.cursor.Cursor.pair.Statement.{statement}

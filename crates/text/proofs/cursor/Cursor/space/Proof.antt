@@ -1,5 +1,5 @@
--- `text::cursor::Cursor::space` meets its contract: at each `return` the tests that led there say whether a byte stands there and of what kind it is.
--- Assumes nothing.
+-- `text::cursor::Cursor::space` meets its contract: at each `return` the tests that led there say whether a
+-- byte stands there and of what kind it is. Assumes nothing.
 use mathlib.Core.Path.{_≡_, sym, _∙_, ap}
 use mathlib.Core.Bool.{true, false}
 use native.Mathlib.Omega.{arith}

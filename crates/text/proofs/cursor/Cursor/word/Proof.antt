@@ -1,5 +1,6 @@
--- `text::cursor::Cursor::word` meets its contract. The invariant: the letters from i on, read from the cursor on, give what the whole word was to give. The
--- measure is the number of letters that are left. Assumes nothing.
+-- `text::cursor::Cursor::word` meets its contract. The invariant: the letters from i on, read from the cursor
+-- on, give what the whole word was to give. The measure is the number of letters that are left. Assumes
+-- nothing.
 use mathlib.Core.Path.{_≡_, refl, sym, _∙_}
 use Prim.Native.Nat.{ℕ, _-_, _≤_, _<_}
 use native.Mathlib.Omega.{arith}

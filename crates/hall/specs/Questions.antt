@@ -1,0 +1,139 @@
+-- Every question from numbers as its list of stages, in the order in which its checks are made (rules 8.22 to
+-- 8.29). To change an order, or to add a check, is to change a list here. What a question adds of its own
+-- comes in as a statement: `Short`, that a lent table is shorter than its least length; `Unfit`, that a
+-- proposed list is no shortest path.
+--     nodesCount, lanesCount, carriersCount, orderCount    2, each count at its place: 0, 1, 2 and 3. The
+--                        lanes' is how many numbers their list has
+--     laneChecks         3, of the lane at a place
+--     eachLane           3, lane by lane
+--     ends               4 and 5, of the move at a place, by its start and its goal
+--     moveChecks         4 to 6, of the move at a place of a list of moves
+--     eachMove           4 to 6, for each move in turn
+--     orderChecks        7, of the order's entry at a place
+--     eachOrderPlace     7, place by place
+--     walkChecks         8, of the move at a place
+--     eachWalk           8, for the lowest carrier number
+--     shortTable, lacking, unfit    9, 10 and 11
+--     counts             2, of the four counts
+--     networkQuestion    a network by itself: 2 (nodes, lanes), 3
+--     checksQuestion     the listed checks of a job: 2 to 7
+--     jobQuestion        a job: 2 to 8
+--     planning           9, then those of the job
+--     moveEnds           2, 3, 4, 5: a network and one move, whose place is 0
+--     moveQuestion       the same with 8
+--     houseOfMove, listOfMove    the house path and the question about one list, with a network and a move
+--     askedQuestion      a job and a carrier number: those of the job, then 10
+--     houseOfJob, listOfJob      the house path and the question about one list, with a job and a carrier
+--                                number
+use mathlib.Core.Path.{_≡_}
+use mathlib.Core.Logic.{_⊎_, _≢_}
+use mathlib.Core.List.{List, [], _∷_, _++_}
+use Prim.Native.Nat.{ℕ, _/_, _%_, _≤_, _<_}
+use lib.ListN.{length}
+use Rattle.hall.specs.declared.Fault.the-variants.{BadCount, BadLane, OffFloor, SameEnds, SharedEnd}
+use Rattle.hall.specs.declared.Fault.the-variants.{BadOrder, Unreachable, ShortTable, NoCarrier}
+use Rattle.hall.specs.declared.Fault.the-variants.{NotShortest}
+use Rattle.hall.specs.Limits.{nodeLimit, laneLimit, carrierLimit}
+use Rattle.hall.specs.Floor.{NoWalk, Network, laneCount, floor}
+use Rattle.hall.specs.Job.{Numbers, carriers, moveCount, startIn, goalIn}
+use Rattle.hall.specs.Stages.{_when_, Stage, Question, asked, only-at, at-each}
+use Rattle.hall.specs.Refusals.{LaneFault, OffFloor-at, SharedEnd-at, BadOrder-at}
+
+-- ---- the stages
+
+abbrev pub nodesCount : ℕ → Stage
+nodesCount nodes = asked BadCount 0 ((nodes < 1) ⊎ (nodeLimit < nodes))
+
+abbrev pub lanesCount : ℕ → Stage
+lanesCount numbers = asked BadCount 1 ((laneLimit < numbers / 2) ⊎ (numbers % 2 ≡ 1))
+
+abbrev pub carriersCount : ℕ → Stage
+carriersCount carriers = asked BadCount 2 (carrierLimit < carriers)
+
+abbrev pub orderCount : (order carriers : ℕ) → Stage
+orderCount order carriers = asked BadCount 3 (order ≢ carriers)
+
+abbrev pub laneChecks : Network → Stage
+laneChecks N = BadLane when LaneFault N ∷ []
+
+abbrev pub eachLane : Network → Stage
+eachLane N = at-each (laneCount (N .lanes)) (laneChecks N)
+
+abbrev pub ends : Network → (start goal : ℕ → ℕ) → Stage
+ends N start goal =
+    OffFloor when (λ i. OffFloor-at N (start i) (goal i)) ∷ SameEnds when (λ i. start i ≡ goal i) ∷ []
+
+abbrev pub moveChecks : Network → List ℕ → Stage
+moveChecks N moves = ends N (startIn moves) (goalIn moves) ++ (SharedEnd when SharedEnd-at moves ∷ [])
+
+abbrev pub eachMove : Network → List ℕ → Stage
+eachMove N moves = at-each (moveCount moves) (moveChecks N moves)
+
+abbrev pub orderChecks : (count : ℕ) → List ℕ → Stage
+orderChecks count order = BadOrder when BadOrder-at count order ∷ []
+
+abbrev pub eachOrderPlace : (count : ℕ) → List ℕ → Stage
+eachOrderPlace count order = at-each (length order) (orderChecks count order)
+
+abbrev pub walkChecks : Network → List ℕ → Stage
+walkChecks N moves = Unreachable when (λ i. NoWalk (floor N) (startIn moves i) (goalIn moves i)) ∷ []
+
+abbrev pub eachWalk : Network → List ℕ → Stage
+eachWalk N moves = at-each (moveCount moves) (walkChecks N moves)
+
+abbrev pub shortTable : Type 0 → Stage
+shortTable Short = asked ShortTable 0 Short
+
+abbrev pub lacking : (count c : ℕ) → Stage
+lacking count c = asked NoCarrier c (count ≤ c)
+
+abbrev pub unfit : Type 0 → Stage
+unfit Unfit = asked NotShortest 0 Unfit
+
+-- ---- a network, a job
+
+abbrev pub counts : (nodes lane-numbers carriers order : ℕ) → Question
+counts nodes lane-numbers carriers order =
+    nodesCount nodes ∷ lanesCount lane-numbers ∷ carriersCount carriers ∷ orderCount order carriers ∷ []
+
+abbrev pub networkQuestion : Network → Question
+networkQuestion N = nodesCount (N .nodes) ∷ lanesCount (length (N .lanes)) ∷ eachLane N ∷ []
+
+abbrev pub checksQuestion : Numbers → Question
+checksQuestion j =
+    counts (j .network .nodes) (length (j .network .lanes)) (carriers j) (length (j .order))
+    ++ (eachLane (j .network)
+    ∷ eachMove (j .network) (j .moves)
+    ∷ eachOrderPlace (carriers j) (j .order)
+    ∷ [])
+
+abbrev pub jobQuestion : Numbers → Question
+jobQuestion j = checksQuestion j ++ (eachWalk (j .network) (j .moves) ∷ [])
+
+abbrev pub planning : (Short : Type 0) → Numbers → Question
+planning Short j = shortTable Short ∷ jobQuestion j
+
+-- ---- one move
+
+abbrev pub moveEnds : Network → (s g : ℕ) → Question
+moveEnds N s g = networkQuestion N ++ only-at 0 (ends N (λ i. s) (λ i. g))
+
+abbrev pub moveQuestion : Network → (s g : ℕ) → Question
+moveQuestion N s g = moveEnds N s g ++ (asked Unreachable 0 (NoWalk (floor N) s g) ∷ [])
+
+abbrev pub houseOfMove : (Short : Type 0) → Network → (s g : ℕ) → Question
+houseOfMove Short N s g = shortTable Short ∷ moveQuestion N s g
+
+abbrev pub listOfMove : Network → (s g : ℕ) (Unfit : Type 0) → Question
+listOfMove N s g Unfit = moveQuestion N s g ++ (unfit Unfit ∷ [])
+
+-- ---- one carrier of a job
+
+abbrev pub askedQuestion : Numbers → ℕ → Question
+askedQuestion j c = jobQuestion j ++ (lacking (carriers j) c ∷ [])
+
+abbrev pub houseOfJob : (Short : Type 0) → Numbers → ℕ → Question
+houseOfJob Short j c = shortTable Short ∷ askedQuestion j c
+
+abbrev pub listOfJob : Numbers → ℕ → (Unfit : Type 0) → Question
+listOfJob j c Unfit = askedQuestion j c ++ (unfit Unfit ∷ [])

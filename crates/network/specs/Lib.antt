@@ -1,2 +1,0 @@
--- What the checks of a network and of a job from numbers answer.
-pub mod Checks
