@@ -1,0 +1,2 @@
+-- What is owed to whoever runs the program.
+pub mod Owed
