@@ -4,6 +4,7 @@
 
 use crate::batch::Case;
 use crate::job::{Job, Refusal};
+use crate::lent::{self, Lent};
 use crate::paths::{
     choose, house_path_of_carrier, house_path_of_move, judge_for_carrier, judge_for_move, Choice,
 };
@@ -20,6 +21,8 @@ pub enum Answer {
     Path(Vec<u16>),
     Passed,
     Chosen(Choice),
+    /// The answer of a question whose tables were lent, and what they hold.
+    Left(Lent),
 }
 
 fn either<T>(result: Result<T, Refusal>, accepted: impl Fn(T) -> Answer) -> Answer {
@@ -74,6 +77,38 @@ pub fn answers_to(case: &Case) -> Vec<Answer> {
                     either(judge_for_move(hall, *asked, list), |()| Answer::Passed),
                 ];
             }
+            Case::ReadRecords { lanes, records, order, text } => {
+                Answer::Left(lent::read_to_records(*lanes, *records, *order, text))
+            }
+            Case::ReadMoves { lanes, records, moves, order, text } => {
+                Answer::Left(lent::read_to_moves(*lanes, *records, *moves, *order, text))
+            }
+            Case::PlanRecords { table, job } => {
+                Answer::Left(lent::plan_records(*table, &job.hall, &job.records, &job.order))
+            }
+            Case::PlanLists { lent, hall, moves, order } => {
+                Answer::Left(lent::plan_lists(*lent, hall, moves, order))
+            }
+            Case::PathOfRecords { path, carrier, job } => Answer::Left(lent::house_of_records(
+                *path,
+                *carrier,
+                &job.hall,
+                &job.records,
+                &job.order,
+            )),
+            Case::PathLent { path, asked, hall } => {
+                Answer::Left(lent::house_of_move(*path, *asked, hall))
+            }
+            Case::JudgeRecords { carrier, list, job } => Answer::Left(lent::judge_of_records(
+                *carrier,
+                list,
+                &job.hall,
+                &job.records,
+                &job.order,
+            )),
+            Case::ChooseNumbers { asked, own, spare, hall } => {
+                Answer::Left(lent::choice(*asked, own, spare, hall))
+            }
         };
     vec![one]
 }
@@ -116,6 +151,15 @@ fn printed_job(job: &Job) -> String {
 }
 
 impl Answer {
+    /// The refusal that an answer is or tells.
+    pub fn refusal(&self) -> Option<Refusal> {
+        match self {
+            Answer::Refused(refusal) => Some(*refusal),
+            Answer::Left(lent) => lent.said.as_ref().err().copied(),
+            _ => None,
+        }
+    }
+
     pub fn printed(&self) -> String {
         match self {
             Answer::Refused(refusal) => format!("REFUSED {} {}\n", refusal.number, refusal.at),
@@ -127,6 +171,7 @@ impl Answer {
             Answer::Chosen(Choice::Own) => "OWN\n".to_string(),
             Answer::Chosen(Choice::Spare) => "SPARE\n".to_string(),
             Answer::Chosen(Choice::Neither) => "NONE\n".to_string(),
+            Answer::Left(lent) => lent.printed(),
         }
     }
 }

@@ -5,6 +5,7 @@
 // caller and is never guessed at.
 
 use crate::job::{Hall, Job, Move};
+use crate::lent::Record;
 
 #[derive(Clone)]
 pub enum Case {
@@ -26,10 +27,34 @@ pub enum Case {
     PlanNumbers { job: Job },
     /// `n`: house path and question about one list from numbers.
     MoveNumbers { hall: Hall, asked: Move, list: Vec<u16> },
+    /// `r`: read a text into lent tables and records of these lengths.
+    ReadRecords { lanes: u16, records: u16, order: u16, text: Vec<u8> },
+    /// `m`: the same on numbers.
+    ReadMoves { lanes: u16, records: u16, moves: u16, order: u16, text: Vec<u8> },
+    /// `p`: plan a job of records into a lent table.
+    PlanRecords { table: u16, job: Recorded },
+    /// `t`: the same on numbers, with lists for distances and ticks.
+    PlanLists { lent: [u16; 3], hall: Hall, moves: Vec<u16>, order: Vec<u16> },
+    /// `o`: house path of a carrier of a job of records, into a lent list.
+    PathOfRecords { path: u16, carrier: u16, job: Recorded },
+    /// `w`: house path of a move into a lent list.
+    PathLent { path: u16, asked: Move, hall: Hall },
+    /// `j`: question about one list for a carrier of a job of records.
+    JudgeRecords { carrier: u16, list: Vec<u16>, job: Recorded },
+    /// `c`: choice between two lists with a network and a move.
+    ChooseNumbers { asked: Move, own: Vec<u16>, spare: Vec<u16>, hall: Hall },
+}
+
+/// A job from numbers with whole records.
+#[derive(Clone)]
+pub struct Recorded {
+    pub hall: Hall,
+    pub records: Vec<Record>,
+    pub order: Vec<u16>,
 }
 
 /// All kinds, in the order in which the histogram shows them.
-pub const KINDS: &[u8] = b"PRHhQqCNn";
+pub const KINDS: &[u8] = b"PRHhQqCNnrmptowjc";
 
 fn put_short(out: &mut Vec<u8>, number: u16) {
     out.extend(number.to_le_bytes());
@@ -58,6 +83,17 @@ fn put_hall(out: &mut Vec<u8>, hall: &Hall) {
     put_long(out, hall.nodes as usize);
     put_long(out, hall.lane_numbers.len());
     put_shorts(out, &hall.lane_numbers);
+}
+
+fn put_recorded(out: &mut Vec<u8>, job: &Recorded) {
+    put_hall(out, &job.hall);
+    put_short(out, job.records.len() as u16);
+    for record in &job.records {
+        put_move(out, record.asked);
+        put_short(out, record.distance);
+        out.extend(record.tick.to_le_bytes());
+    }
+    put_list(out, &job.order);
 }
 
 /// What is left of a payload.
@@ -113,6 +149,16 @@ impl<'a> Rest<'a> {
         Ok(Job { hall, moves, order: self.shorts(places as usize)? })
     }
 
+    fn recorded(&mut self) -> Result<Recorded, String> {
+        let hall = self.hall()?;
+        let mut records = Vec::new();
+        for _ in 0..self.short()? {
+            let asked = self.one_move()?;
+            records.push(Record { asked, distance: self.short()?, tick: self.long()? });
+        }
+        Ok(Recorded { hall, records, order: self.list()? })
+    }
+
     /// The job text is whatever the payload still holds.
     fn text(&mut self) -> Vec<u8> {
         let text = self.0.to_vec();
@@ -133,6 +179,14 @@ impl Case {
             Case::Choose { .. } => b'C',
             Case::PlanNumbers { .. } => b'N',
             Case::MoveNumbers { .. } => b'n',
+            Case::ReadRecords { .. } => b'r',
+            Case::ReadMoves { .. } => b'm',
+            Case::PlanRecords { .. } => b'p',
+            Case::PlanLists { .. } => b't',
+            Case::PathOfRecords { .. } => b'o',
+            Case::PathLent { .. } => b'w',
+            Case::JudgeRecords { .. } => b'j',
+            Case::ChooseNumbers { .. } => b'c',
         }
     }
 
@@ -176,6 +230,44 @@ impl Case {
                 put_move(&mut out, *asked);
                 put_list(&mut out, list);
             }
+            Case::ReadRecords { lanes, records, order, text } => {
+                put_shorts(&mut out, &[*lanes, *records, *order]);
+                out.extend(text);
+            }
+            Case::ReadMoves { lanes, records, moves, order, text } => {
+                put_shorts(&mut out, &[*lanes, *records, *moves, *order]);
+                out.extend(text);
+            }
+            Case::PlanRecords { table, job } => {
+                put_short(&mut out, *table);
+                put_recorded(&mut out, job);
+            }
+            Case::PlanLists { lent, hall, moves, order } => {
+                put_shorts(&mut out, lent);
+                put_hall(&mut out, hall);
+                put_list(&mut out, moves);
+                put_list(&mut out, order);
+            }
+            Case::PathOfRecords { path, carrier, job } => {
+                put_shorts(&mut out, &[*path, *carrier]);
+                put_recorded(&mut out, job);
+            }
+            Case::PathLent { path, asked, hall } => {
+                put_short(&mut out, *path);
+                put_move(&mut out, *asked);
+                put_hall(&mut out, hall);
+            }
+            Case::JudgeRecords { carrier, list, job } => {
+                put_short(&mut out, *carrier);
+                put_list(&mut out, list);
+                put_recorded(&mut out, job);
+            }
+            Case::ChooseNumbers { asked, own, spare, hall } => {
+                put_move(&mut out, *asked);
+                put_list(&mut out, own);
+                put_list(&mut out, spare);
+                put_hall(&mut out, hall);
+            }
         }
         out
     }
@@ -217,6 +309,45 @@ impl Case {
                 hall: rest.hall()?,
                 asked: rest.one_move()?,
                 list: rest.list()?,
+            },
+            b'r' => Case::ReadRecords {
+                lanes: rest.short()?,
+                records: rest.short()?,
+                order: rest.short()?,
+                text: rest.text(),
+            },
+            b'm' => Case::ReadMoves {
+                lanes: rest.short()?,
+                records: rest.short()?,
+                moves: rest.short()?,
+                order: rest.short()?,
+                text: rest.text(),
+            },
+            b'p' => Case::PlanRecords { table: rest.short()?, job: rest.recorded()? },
+            b't' => Case::PlanLists {
+                lent: [rest.short()?, rest.short()?, rest.short()?],
+                hall: rest.hall()?,
+                moves: rest.list()?,
+                order: rest.list()?,
+            },
+            b'o' => Case::PathOfRecords {
+                path: rest.short()?,
+                carrier: rest.short()?,
+                job: rest.recorded()?,
+            },
+            b'w' => {
+                Case::PathLent { path: rest.short()?, asked: rest.one_move()?, hall: rest.hall()? }
+            }
+            b'j' => Case::JudgeRecords {
+                carrier: rest.short()?,
+                list: rest.list()?,
+                job: rest.recorded()?,
+            },
+            b'c' => Case::ChooseNumbers {
+                asked: rest.one_move()?,
+                own: rest.list()?,
+                spare: rest.list()?,
+                hall: rest.hall()?,
             },
             other => return Err(format!("no kind has the byte {}", other)),
         };

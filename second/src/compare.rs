@@ -15,6 +15,15 @@ pub struct Comparison {
 
 const SHOWN: usize = 5;
 
+/// The beginning of an answer, which may hold a table of 12,400 places.
+fn beginning(answer: &str) -> String {
+    let mut shown: String = answer.chars().take(600).collect();
+    if shown.len() < answer.len() {
+        shown += " ..\n";
+    }
+    shown
+}
+
 /// The answers in a file, by case: the text between one `# i` line and the
 /// next. A line `# i` with another number than the case's ends the list,
 /// since from there on nothing can be told apart.
@@ -52,8 +61,10 @@ pub fn compare(cases: &[Case], file: &str) -> Comparison {
         result.failed += 1;
         if result.failed <= SHOWN {
             let kind = case.kind() as char;
-            let there = other.unwrap_or("(no answer)\n");
-            result.report += &format!("case {} ({}):\n  here:  {}  there: {}", number, kind, own, there);
+            let there = beginning(other.unwrap_or("(no answer)\n"));
+            let here = beginning(&own);
+            result.report +=
+                &format!("case {} ({}):\n  here:  {}  there: {}", number, kind, here, there);
         }
     }
     result

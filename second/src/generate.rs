@@ -1,5 +1,5 @@
-// A batch: all small networks, the systematic faults, the limits, and as many
-// random cases as asked for. Random cases take turns through every kind and
+// A batch: all small networks, the systematic faults, the limits, lent tables
+// of all lengths, and as many random cases as asked for. Random cases take turns through every kind and
 // every damage, so that even a short run has some of each.
 
 use crate::batch::Case;
@@ -9,6 +9,7 @@ use crate::damage_numbers::{damaged_hall, damaged_job, HALL_DAMAGES, JOB_DAMAGES
 use crate::dice::Dice;
 use crate::halls::{ample_job, any_hall, any_job, parted_job, through_one_corridor};
 use crate::job::Job;
+use crate::lent_cases::{lent_cases, random_lent};
 use crate::limits::limit_cases;
 use crate::lists::{proposal, some_move};
 use crate::small::all_small_cases;
@@ -189,12 +190,16 @@ fn move_numbers_case(dice: &mut Dice) -> Case {
 }
 
 fn random_case(dice: &mut Dice, number: usize) -> Case {
-    let turn = number / 12;
-    match number % 12 {
+    let turn = number / 16;
+    match number % 16 {
         place @ 0..=3 => Case::Plan { text: some_plan_text(dice, 4 * turn + place) },
         place @ 4..=7 => question_case(dice, 4 * turn + place - 4),
         place @ 8..=9 => numbers_case(dice, 2 * turn + place - 8),
         10 => move_numbers_case(dice),
+        place @ 11..=14 => {
+            let text = some_plan_text(dice, turn);
+            random_lent(dice, 4 * turn + place - 11, text)
+        }
         _ => Case::Read { text: some_plan_text(dice, turn) },
     }
 }
@@ -204,6 +209,7 @@ pub fn batch(seed: u64, count: usize) -> Vec<Case> {
     let mut cases = all_small_cases();
     cases.extend(systematic_cases(&mut dice));
     cases.extend(limit_cases(&mut dice));
+    cases.extend(lent_cases(&mut dice));
     cases.extend((0..count).map(|number| random_case(&mut dice, number)));
     cases
 }

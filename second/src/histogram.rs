@@ -1,10 +1,9 @@
 // What a batch holds: how often each kind of case is accepted and how often
 // it meets each refusal, so that a reader sees at a glance what is missing.
-// Refusal 9 is about lent tables that are too short; the batch lends none.
+// Refusal 9 comes only where tables are lent with a length of their own.
 
 use crate::answers::{answers_to, Answer};
 use crate::batch::{Case, KINDS};
-use crate::job::Refusal;
 use crate::paths::Choice;
 
 #[derive(Default)]
@@ -31,9 +30,13 @@ struct Extra {
 
 impl Extra {
     fn note(&mut self, case: &Case, answer: &Answer) {
-        let from_numbers = matches!(case, Case::PlanNumbers { .. } | Case::MoveNumbers { .. });
+        let from_numbers = b"Nnptowj".contains(&case.kind());
+        if let Some(refusal) = answer.refusal().filter(|refusal| refusal.number == 2) {
+            if from_numbers {
+                self.places[refusal.at] += 1;
+            }
+        }
         match answer {
-            Answer::Refused(Refusal { number: 2, at }) if from_numbers => self.places[*at] += 1,
             Answer::Chosen(Choice::Own) => self.own += 1,
             Answer::Chosen(Choice::Spare) => self.spare += 1,
             Answer::Chosen(Choice::Neither) => self.neither += 1,
@@ -56,9 +59,9 @@ pub fn histogram(cases: &[Case]) -> String {
         let place = KINDS.iter().position(|&kind| kind == case.kind()).expect("a known kind");
         rows[place].cases += 1;
         for answer in answers_to(case) {
-            match answer {
-                Answer::Refused(refusal) => rows[place].refused[refusal.number as usize] += 1,
-                _ => rows[place].accepted += 1,
+            match answer.refusal() {
+                Some(refusal) => rows[place].refused[refusal.number as usize] += 1,
+                None => rows[place].accepted += 1,
             }
             extra.note(case, &answer);
         }

@@ -15,6 +15,8 @@ mod generate;
 mod halls;
 mod histogram;
 mod job;
+mod lent;
+mod lent_cases;
 mod limit_size;
 mod limits;
 mod lists;
@@ -23,9 +25,11 @@ mod network;
 mod page;
 mod paths;
 mod plan;
+mod program_texts;
 mod rule;
 mod safe;
 mod selftest;
+mod selftest_lent;
 mod selftest_refusals;
 mod shortest;
 mod small;
@@ -43,6 +47,7 @@ const USAGE: &str = "usage:
   second safe FILE                  try all paths of small plans of a batch
   second compare FILE ANSWERS      hold another program's answers to these
   second show FILE CASE             write the payload of one case
+  second texts FOLDER               write texts for the program, a file each
   second selftest                   check the cases of page 01
 ";
 
@@ -106,7 +111,10 @@ fn safe_command(path: &str) -> Result<bool, String> {
 fn compare_command(path: &str, answers: &str) -> Result<bool, String> {
     let file = std::fs::read(answers).map_err(|fault| format!("{}: {}", answers, fault))?;
     let found = compare::compare(&cases_in(path)?, &String::from_utf8_lossy(&file));
-    print(format!("{}compare: {} passed, {} failed\n", found.report, found.passed, found.failed).as_bytes())?;
+    print(
+        format!("{}compare: {} passed, {} failed\n", found.report, found.passed, found.failed)
+            .as_bytes(),
+    )?;
     Ok(found.failed == 0)
 }
 
@@ -115,6 +123,16 @@ fn show_command(path: &str, case: &str) -> Result<bool, String> {
     let case = cases.get(number(case)? as usize).ok_or("the file has no such case")?;
     eprintln!("kind {}", case.kind() as char);
     print(&case.payload())?;
+    Ok(true)
+}
+
+fn texts_command(folder: &str) -> Result<bool, String> {
+    let texts = program_texts::texts();
+    for (number, text) in texts.iter().enumerate() {
+        let path = format!("{}/{:03}", folder, number);
+        std::fs::write(&path, text).map_err(|fault| format!("{}: {}", path, fault))?;
+    }
+    print(program_texts::told(&texts).as_bytes())?;
     Ok(true)
 }
 
@@ -137,6 +155,7 @@ fn main() -> ExitCode {
         ["safe", path] => safe_command(path),
         ["compare", path, answers] => compare_command(path, answers),
         ["show", path, case] => show_command(path, case),
+        ["texts", folder] => texts_command(folder),
         ["selftest"] => selftest_command(),
         _ => Err(USAGE.to_string()),
     };

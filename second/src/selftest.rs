@@ -9,6 +9,7 @@ use crate::mistakes;
 use crate::page;
 use crate::plan::plan;
 use crate::rule::Pair;
+use crate::selftest_lent;
 use crate::selftest_refusals;
 use crate::systematic::PRINTED_JOB;
 use crate::text;
@@ -122,6 +123,7 @@ pub fn run() -> (String, bool) {
     selftest_refusals::refusals_of_texts(&mut checks);
     selftest_refusals::refusals_of_numbers(&mut checks);
     selftest_refusals::paths(&mut checks);
+    selftest_lent::run(&mut checks);
     let mut report = checks.failures.join("\n");
     if !report.is_empty() {
         report.push('\n');

@@ -1,5 +1,7 @@
-// The kinds of cases. Each takes its payload apart, asks the library one question, or two, and prints the answer.
+// The kinds of cases. Each takes its payload apart, asks the library one question, or two, and prints the
+// answer.
 use super::choice;
+use super::marked;
 use super::numbers;
 use super::payload::front;
 use super::payload::least;
@@ -31,6 +33,7 @@ pub(crate) fn answer(kind: u8, s: &[u8]) {
         b'C' => choice::answer(s),
         b'N' => numbers::job(s),
         b'n' => numbers::network(s),
+        b'r' | b'm' | b'p' | b't' | b'o' | b'w' | b'j' | b'c' => marked::answer(kind, s),
         _ => print::word(b"no such kind\n"),
     }
 }
@@ -42,18 +45,18 @@ fn plan_text(s: &[u8]) {
 }
 
 fn read_text(s: &[u8]) {
-    let mut lanes = [0u16; 8192];
-    let mut moves = [0u16; 128];
-    let mut order = [0u16; 64];
-    match read_numbers(s, &mut lanes, 64, &mut moves, &mut order) {
+    let mut lanes = [0u16; Job::LANE_NUMBERS];
+    let mut moves = [0u16; Job::MOVE_NUMBERS];
+    let mut order = [0u16; Job::CARRIERS];
+    match read_numbers(s, &mut lanes, Job::CARRIERS, &mut moves, &mut order) {
         Read::Job(job) => print_job(job, &lanes, &moves, &order),
         Read::Refused(r) => print::refused(r),
     }
 }
 
 fn print_job(job: Job, lanes: &[u16], moves: &[u16], order: &[u16]) {
-    let lane_end = 2 * least(job.lanes, 4096);
-    let count = least(job.carriers, 64);
+    let lane_end = 2 * least(job.lanes, Job::LANES);
+    let count = least(job.carriers, Job::CARRIERS);
     let move_end = 2 * count;
     print::word(b"READ ");
     print::size(job.nodes);
@@ -124,19 +127,25 @@ pub(crate) fn print_passed(answer: Checked) {
 
 fn house_of_job(s: &[u8]) {
     let carrier = Carrier(short_at(s, 0));
-    let mut lanes = [0u16; 8192];
-    let mut moves = [0u16; 128];
-    let mut order = [0u16; 64];
-    match read_numbers(rest(s, 2), &mut lanes, 64, &mut moves, &mut order) {
+    let mut lanes = [0u16; Job::LANE_NUMBERS];
+    let mut moves = [0u16; Job::MOVE_NUMBERS];
+    let mut order = [0u16; Job::CARRIERS];
+    match read_numbers(
+        rest(s, 2),
+        &mut lanes,
+        Job::CARRIERS,
+        &mut moves,
+        &mut order,
+    ) {
         Read::Job(job) => house_in_job(job, &lanes, &moves, &order, carrier),
         Read::Refused(r) => print::refused(r),
     }
 }
 
 fn house_in_job(job: Job, lanes: &[u16], moves: &[u16], order: &[u16], carrier: Carrier) {
-    let mut path = [0u16; 1024];
-    let lane_end = 2 * least(job.lanes, 4096);
-    let count = least(job.carriers, 64);
+    let mut path = [0u16; Job::NODES];
+    let lane_end = 2 * least(job.lanes, Job::LANES);
+    let count = least(job.carriers, Job::CARRIERS);
     let move_end = 2 * count;
     let answer = house_for(
         job.nodes,
@@ -152,18 +161,24 @@ fn house_in_job(job: Job, lanes: &[u16], moves: &[u16], order: &[u16], carrier: 
 fn house_of_move(s: &[u8]) {
     let start = short_at(s, 0);
     let goal = short_at(s, 2);
-    let mut lanes = [0u16; 8192];
-    let mut moves = [0u16; 128];
-    let mut order = [0u16; 64];
-    match read_numbers(rest(s, 4), &mut lanes, 64, &mut moves, &mut order) {
+    let mut lanes = [0u16; Job::LANE_NUMBERS];
+    let mut moves = [0u16; Job::MOVE_NUMBERS];
+    let mut order = [0u16; Job::CARRIERS];
+    match read_numbers(
+        rest(s, 4),
+        &mut lanes,
+        Job::CARRIERS,
+        &mut moves,
+        &mut order,
+    ) {
         Read::Job(job) => house_in_network(job, &lanes, start, goal),
         Read::Refused(r) => print::refused(r),
     }
 }
 
 fn house_in_network(job: Job, lanes: &[u16], start: u16, goal: u16) {
-    let mut path = [0u16; 1024];
-    let lane_end = 2 * least(job.lanes, 4096);
+    let mut path = [0u16; Job::NODES];
+    let lane_end = 2 * least(job.lanes, Job::LANES);
     let answer = house(job.nodes, front(lanes, lane_end), start, goal, &mut path);
     print_house(answer, &path);
 }
@@ -178,10 +193,10 @@ fn list_of_job(s: &[u8]) {
 }
 
 fn judge_job(text: &[u8], carrier: Carrier, list: &[u16]) {
-    let mut lanes = [0u16; 8192];
-    let mut moves = [0u16; 128];
-    let mut order = [0u16; 64];
-    match read_numbers(text, &mut lanes, 64, &mut moves, &mut order) {
+    let mut lanes = [0u16; Job::LANE_NUMBERS];
+    let mut moves = [0u16; Job::MOVE_NUMBERS];
+    let mut order = [0u16; Job::CARRIERS];
+    match read_numbers(text, &mut lanes, Job::CARRIERS, &mut moves, &mut order) {
         Read::Job(job) => judge_in_job(job, &lanes, &moves, &order, carrier, list),
         Read::Refused(r) => print::refused(r),
     }
@@ -195,8 +210,8 @@ fn judge_in_job(
     carrier: Carrier,
     list: &[u16],
 ) {
-    let lane_end = 2 * least(job.lanes, 4096);
-    let count = least(job.carriers, 64);
+    let lane_end = 2 * least(job.lanes, Job::LANES);
+    let count = least(job.carriers, Job::CARRIERS);
     let move_end = 2 * count;
     let answer = judge_for(
         job.nodes,
@@ -220,17 +235,17 @@ fn list_of_move(s: &[u8]) {
 }
 
 fn judge_move(text: &[u8], start: u16, goal: u16, list: &[u16]) {
-    let mut lanes = [0u16; 8192];
-    let mut moves = [0u16; 128];
-    let mut order = [0u16; 64];
-    match read_numbers(text, &mut lanes, 64, &mut moves, &mut order) {
+    let mut lanes = [0u16; Job::LANE_NUMBERS];
+    let mut moves = [0u16; Job::MOVE_NUMBERS];
+    let mut order = [0u16; Job::CARRIERS];
+    match read_numbers(text, &mut lanes, Job::CARRIERS, &mut moves, &mut order) {
         Read::Job(job) => judge_in_network(job, &lanes, start, goal, list),
         Read::Refused(r) => print::refused(r),
     }
 }
 
 fn judge_in_network(job: Job, lanes: &[u16], start: u16, goal: u16, list: &[u16]) {
-    let lane_end = 2 * least(job.lanes, 4096);
+    let lane_end = 2 * least(job.lanes, Job::LANES);
     let answer = judge(job.nodes, front(lanes, lane_end), start, goal, list);
     print_passed(answer);
 }

@@ -1,5 +1,5 @@
-// The choice between two lists. The library answers the lent list itself; here it is told by its contents, which is enough, since the own list is chosen wherever
-// the two are equal and one is a shortest path.
+// The choice between two lists. The library answers the lent list itself; here it is told by its contents,
+// which is enough, since the own list is chosen wherever the two are equal and one is a shortest path.
 use super::payload::front;
 use super::payload::least;
 use super::payload::load;
@@ -7,6 +7,7 @@ use super::payload::rest;
 use super::payload::short_at;
 use super::payload::short_size_at;
 use super::print;
+use hall::Job;
 use path::choose;
 use text::reader::Read;
 use text::reader::read_numbers;
@@ -26,7 +27,7 @@ fn same(a: &[u16], b: &[u16]) -> bool {
     true
 }
 
-fn told(chosen: &[u16], own: &[u16]) {
+pub(crate) fn told(chosen: &[u16], own: &[u16]) {
     if chosen.len() == 0 {
         print::word(b"NONE\n");
         return;
@@ -52,12 +53,12 @@ fn choice_of<'a>(
 
 // The choice for the network of a text.
 fn choice_in<'a>(text: &[u8], start: u16, goal: u16, own: &'a [u16], spare: &'a [u16]) {
-    let mut lanes = [0u16; 8192];
-    let mut moves = [0u16; 128];
-    let mut order = [0u16; 64];
-    match read_numbers(text, &mut lanes, 64, &mut moves, &mut order) {
+    let mut lanes = [0u16; Job::LANE_NUMBERS];
+    let mut moves = [0u16; Job::MOVE_NUMBERS];
+    let mut order = [0u16; Job::CARRIERS];
+    match read_numbers(text, &mut lanes, Job::CARRIERS, &mut moves, &mut order) {
         Read::Job(job) => {
-            let lane_end = 2 * least(job.lanes, 4096);
+            let lane_end = 2 * least(job.lanes, Job::LANES);
             choice_of(job.nodes, front(&lanes, lane_end), start, goal, own, spare);
         }
         Read::Refused(r) => print::refused(r),

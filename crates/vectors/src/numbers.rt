@@ -1,4 +1,5 @@
-// Cases from numbers: a whole job, and a network with a move and a list. Lists of up to 16,384 numbers are taken.
+// Cases from numbers: a whole job, and a network with a move and a list. Lists of up to 16,384 numbers are
+// taken.
 use super::cases::print_house;
 use super::cases::print_passed;
 use super::payload::front;
@@ -9,6 +10,7 @@ use super::payload::rest;
 use super::payload::short_at;
 use super::payload::short_size_at;
 use super::print;
+use hall::Job;
 use path::house;
 use path::judge;
 use planner::Planned;
@@ -25,9 +27,9 @@ fn print_times(distances: &[u16], ticks: &[u32]) {
 }
 
 fn plan_and_print(nodes: usize, lanes: &[u16], moves: &[u16], order: &[u16]) {
-    let mut table = [0u16; 12288];
-    let mut distances = [0u16; 64];
-    let mut ticks = [0u32; 64];
+    let mut table = [0u16; Job::TABLE];
+    let mut distances = [0u16; Job::CARRIERS];
+    let mut ticks = [0u32; Job::CARRIERS];
     let carriers = moves.len() / 2;
     match plan_moves(
         nodes,
@@ -73,7 +75,7 @@ pub(crate) fn job(s: &[u8]) {
 
 // Two questions about one network: the house path of a move, and whether a list is a shortest path of it.
 fn house_and_list(nodes: usize, lanes: &[u16], start: u16, goal: u16, list: &[u16]) {
-    let mut path = [0u16; 1024];
+    let mut path = [0u16; Job::NODES];
     let housed = house(nodes, lanes, start, goal, &mut path);
     print_house(housed, &path);
     print_passed(judge(nodes, lanes, start, goal, list));

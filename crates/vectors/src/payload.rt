@@ -1,5 +1,5 @@
-// Numbers and lists of a payload, lowest byte first. What lies past its end reads as 0, so a case that is cut off is answered by what there is of it, and no
-// function here asks anything of its caller.
+// Numbers and lists of a payload, lowest byte first. What lies past its end reads as 0, so a case that is cut
+// off is answered by what there is of it, and no function here asks anything of its caller.
 ghost use Prim.Native.Nat.{_≤_, _<_};
 
 pub(crate) fn least(a: usize, b: usize) -> usize

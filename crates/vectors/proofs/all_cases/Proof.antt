@@ -1,5 +1,5 @@
--- `vectors::all_cases` is safe and ends. The loop's invariant: the number is at most the last one, and the space is as long as it came. The measure is how many
--- numbers are left. Assumes nothing.
+-- `vectors::all_cases` is safe and ends. The loop's invariant: the number is at most the last one, and the
+-- space is as long as it came. The measure is how many numbers are left. Assumes nothing.
 use borrow.Author.Needs.{needs}
 use mathlib.Core.Path.{_≡_}
 use Prim.Native.Nat.{_≤_, _-_}

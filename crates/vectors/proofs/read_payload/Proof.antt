@@ -1,4 +1,5 @@
--- `vectors::read_payload` is safe: a part that is lent is as long as it says, since it is no longer than the whole. There is no loop. Assumes nothing.
+-- `vectors::read_payload` is safe: a part that is lent is as long as it says, since it is no longer than the
+-- whole. There is no loop. Assumes nothing.
 use mathlib.Core.Path.{sym}
 use lib.Seq.{length-take-le}
 use borrow.Author.Needs.{needs}

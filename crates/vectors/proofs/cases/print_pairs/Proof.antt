@@ -1,5 +1,5 @@
--- `vectors::cases::print_pairs` is safe and ends. The loop's invariant: `i` is at most `n`, and `n` at most the list's length. The measure is what is left of
--- `n`. Assumes nothing.
+-- `vectors::cases::print_pairs` is safe and ends. The loop's invariant: `i` is at most `n`, and `n` at most
+-- the list's length. The measure is what is left of `n`. Assumes nothing.
 use borrow.Author.Needs.{needs}
 use Prim.Native.Nat.{_≤_, _-_}
 use lib.ListN.{length}

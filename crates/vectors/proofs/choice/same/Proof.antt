@@ -1,5 +1,5 @@
--- `vectors::choice::same` is safe and ends. The loop's invariant: `i` is at most `n`, and `n` at most the length of each list. The measure is what is left of
--- `n`. Assumes nothing.
+-- `vectors::choice::same` is safe and ends. The loop's invariant: `i` is at most `n`, and `n` at most the
+-- length of each list. The measure is what is left of `n`. Assumes nothing.
 use borrow.Author.Needs.{needs}
 use Prim.Native.Nat.{_≤_, _-_}
 use lib.ListN.{length}

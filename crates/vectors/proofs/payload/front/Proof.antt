@@ -1,4 +1,5 @@
--- `vectors::payload::front` is safe: a part that is lent is as long as it says, since it is no longer than the whole. There is no loop. Assumes nothing.
+-- `vectors::payload::front` is safe: a part that is lent is as long as it says, since it is no longer than
+-- the whole. There is no loop. Assumes nothing.
 use mathlib.Core.Path.{sym}
 use lib.Seq.{length-take-le}
 use borrow.Author.Needs.{needs}

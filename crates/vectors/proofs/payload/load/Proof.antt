@@ -1,5 +1,5 @@
--- `vectors::payload::load` is safe and ends. The loop's invariant: `i` is at most `n`, `n` at most the list's length, and the list as long as it came. The
--- measure is what is left of `n`. Assumes nothing.
+-- `vectors::payload::load` is safe and ends. The loop's invariant: `i` is at most `n`, `n` at most the list's
+-- length, and the list as long as it came. The measure is what is left of `n`. Assumes nothing.
 use borrow.Author.Needs.{needs}
 use mathlib.Core.Path.{_≡_}
 use Prim.Native.Nat.{_≤_, _-_}

@@ -1,0 +1,86 @@
+// What is left in lent tables, by hand for page 01's printed job: after an
+// accepted question, after refusal 9, and after another refusal.
+
+use crate::job::Move;
+use crate::lent::{self, Record, MARK};
+use crate::page;
+use crate::selftest::Checks;
+use crate::systematic::PRINTED_JOB;
+
+const ALL_MARKED: &str = "starts 80x7777\ngoals 80x7777\ndistances 80x7777\nticks 80x7777\n";
+
+fn printed_records() -> Vec<Record> {
+    let record = |asked: Move| Record { asked, distance: MARK as u16, tick: MARK };
+    page::printed_job().moves.into_iter().map(record).collect()
+}
+
+fn reading(checks: &mut Checks) {
+    let text = PRINTED_JOB.as_bytes();
+    let accepted = "READ 5 4 3\nlanes 1x0 2x1 2x2 2x3 1x4 8184x0 108x7777\n\
+        starts 1x0 1x4 1x2 61x0 16x7777\ngoals 1x4 1x0 1x1 61x0 16x7777\n\
+        distances 64x0 16x7777\nticks 64x0 16x7777\norder 1x0 1x1 1x2 61x0 36x7777\n";
+    checks.same("read", lent::read_to_records(8192, 64, 64, text).printed().as_str(), accepted);
+    checks.same(
+        "read, longer",
+        lent::read_to_records(8300, 80, 100, text).printed().as_str(),
+        accepted,
+    );
+    let short = format!("REFUSED 9 0\nlanes 8300x7777\n{}order 100x7777\n", ALL_MARKED);
+    for (lanes, records, order) in [(8191, 64, 64), (8192, 63, 64), (8192, 64, 63)] {
+        let found = lent::read_to_records(lanes, records, order, text).printed();
+        checks.same("read, short", &found, &short);
+    }
+    let refused = "REFUSED 2 11\nlanes 8192x0 108x7777\nmoves 128x0 72x7777\norder 64x0 36x7777\n";
+    let spoiled = PRINTED_JOB.replace("ORDER 3", "ORDER 2");
+    let found = lent::read_to_moves(8192, 64, 128, 64, spoiled.as_bytes()).printed();
+    checks.same("read, refused", found.as_str(), refused);
+}
+
+fn planning(checks: &mut Checks) {
+    let job = page::printed_job();
+    let records = printed_records();
+    let table = "table 1x0 1x4 1x2 61x0 1x4 1x0 1x2 61x0 2x2 3966x0 \
+        1x4 1x0 1x1 62x0 1x4 1x3 61x0 2x2 1x1 3966x0 \
+        1x4 1x3 61x0 1x4 1x0 1x1 61x0 1x3 1x1 3966x0 112x7777\n";
+    let moves = "starts 1x0 1x4 1x2 77x7777\ngoals 1x4 1x0 1x1 77x7777\n";
+    let times = "distances 2x4 1x1 77x7777\nticks 1x0 1x5 1x3 77x7777\n";
+    let found = lent::plan_records(12_288, &job.hall, &records, &job.order).printed();
+    checks.same("plan", found, format!("COST 17\n{}{}{}", table, moves, times));
+    let as_they_came = "distances 80x7777\nticks 80x7777\n";
+    let found = lent::plan_records(12_287, &job.hall, &records, &job.order).printed();
+    let short = format!("REFUSED 9 0\ntable 12400x7777\n{}{}", moves, as_they_came);
+    checks.same("plan, short", found, short);
+    let found = lent::plan_records(12_300, &job.hall, &records, &[0, 1, 1]).printed();
+    let refused = format!("REFUSED 7 2\ntable 12288x0 112x7777\n{}{}", moves, as_they_came);
+    checks.same("plan, refused", found, refused);
+    let found = lent::plan_lists([12_288, 64, 64], &job.hall, &[0, 4, 4, 0, 2, 1, 9], &job.order);
+    let lists = "distances 2x4 1x1 61x0 36x7777\nticks 1x0 1x5 1x3 61x0 36x7777\n";
+    checks.same("plan, lists", found.printed(), format!("COST 17\n{}{}", table, lists));
+}
+
+fn paths(checks: &mut Checks) {
+    let job = page::printed_job();
+    let records = printed_records();
+    let asked = job.moves[0];
+    let found = lent::house_of_move(1024, asked, &job.hall).printed();
+    let path = "path 1x0 1x1 1x2 1x3 1x4 1019x0 76x7777\n";
+    checks.same("path", found, format!("PATH 5\n{}", path));
+    let found = lent::house_of_move(1023, asked, &job.hall).printed();
+    checks.same("path, short", found.as_str(), "REFUSED 9 0\npath 1100x7777\n");
+    let found = lent::house_of_records(1024, 3, &job.hall, &records, &job.order);
+    checks.same("path, no carrier", found.tables[0].1[..1025].to_vec(), {
+        let mut left = vec![0; 1024];
+        left.push(MARK);
+        left
+    });
+    let found = lent::judge_of_records(2, &[2, 1], &job.hall, &records, &job.order);
+    checks.same("judge", found.said.is_ok(), true);
+    let found = lent::choice(asked, &[0, 4], &[0, 1, 2, 3, 4], &job.hall).printed();
+    checks.same("choice", found.as_str(), "SPARE\n5\n");
+}
+
+pub fn run(checks: &mut Checks) {
+    reading(checks);
+    planning(checks);
+    paths(checks);
+}
