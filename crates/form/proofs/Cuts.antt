@@ -1,0 +1,194 @@
+-- Where a word or a number ends: its bytes are 48 or more, and the space and the line feed behind it are
+-- less. So a text that begins with such bytes is cut there in one way, and a number is read off its digits
+-- again (`value`). Assumes nothing.
+--     Plain           each byte of a word is 48 or more
+--     Breaks          a text is at its end, or its first byte is below 48
+--     cut-unique      there is one cut of a text into plain bytes and a break
+--     digits-plain    the digits of a number are plain; digits-unique they tell the number; digits-length
+--                     there are at most four; zero-alone none follows a first 0
+--     Numbered        a text begins with the digits of a number, which end there; `number?` decides it,
+--                     `numbered-unique` says that it is one
+use mathlib.Core.Path.{_≡_, refl, sym, _∙_, ap}
+use mathlib.Core.List.{List, [], _∷_, _++_}
+use Prim.Native.Nat.{ℕ, _+_, _*_, _-_, _/_, _%_, _≤_, _<_}
+use native.Mathlib.Decide.{decLt, ℕ-discrete}
+use native.Mathlib.Omega.{arith}
+use borrow.Author.Tests.{lt-ltb, le-ltb}
+use lib.ListN.{length}
+use Rattle.form.specs.Lines.{digit, digits}
+
+abbrev pub Plain : List ℕ → Type 0
+Plain [] = Unit
+Plain (b ∷ w) = (48 ≤ b) × Plain w
+
+abbrev pub Breaks : List ℕ → Type 0
+Breaks [] = Unit
+Breaks (b ∷ t) = b < 48
+
+-- ---- lists
+
+pub head-same : {a b : ℕ} {x y : List ℕ} → a ∷ x ≡ b ∷ y → a ≡ b
+head-same e = cc
+
+pub tail-same : {a b : ℕ} {x y : List ℕ} → a ∷ x ≡ b ∷ y → x ≡ y
+tail-same e = cc
+
+pub never-empty : {A : Type 0} {a : ℕ} {x : List ℕ} → a ∷ x ≡ [] → A
+never-empty e = let z : _≡_ {A = ℕ} 0 1 = cc in absurd (let x : ⊥ = omega arith in x)
+
+pub same? : (w v : List ℕ) → Dec (w ≡ v)
+same? [] [] = yes refl
+same? [] (b ∷ v) = no (λ e. never-empty (sym e))
+same? (a ∷ w) [] = no (λ e. never-empty e)
+same? (a ∷ w) (b ∷ v) = cases (ℕ-discrete a b) (same? w v)
+  where
+    cases : Dec (a ≡ b) → Dec (w ≡ v) → Dec (a ∷ w ≡ b ∷ v)
+    cases (yes h) (yes k) = yes (cc)
+    cases (yes h) (no k) = no (λ e. k (tail-same e))
+    cases (no h) k = no (λ e. h (head-same e))
+
+-- ---- a cut
+
+pub cut-unique : (w v x y : List ℕ) → Plain w → Plain v → Breaks x → Breaks y → w ++ x ≡ v ++ y
+    → (w ≡ v) × (x ≡ y)
+cut-unique [] [] x y p q b d e = (refl, e)
+cut-unique [] (c ∷ v) [] y p q b d e = never-empty (sym e)
+cut-unique [] (c ∷ v) (a ∷ x) y p q b d e = let h = head-same e in
+    absurd (let x : ⊥ = omega (arith, q .0) in x)
+cut-unique (a ∷ w) [] x [] p q b d e = never-empty e
+cut-unique (a ∷ w) [] x (c ∷ y) p q b d e = let h = head-same e in
+    absurd (let x : ⊥ = omega (arith, p .0) in x)
+cut-unique (a ∷ w) (c ∷ v) x y p q b d e =
+    let h = head-same e in
+    let r = cut-unique w v x y (p .1) (q .1) b d (tail-same e) in
+    let k = r .0 in
+    ((λ i. h i ∷ k i), r .1)
+
+pub record Cut (t : List ℕ) : Type 0 where
+  pub front : List ℕ
+  pub rest : List ℕ
+  pub joins : t ≡ front ++ rest
+  pub plain : Plain front
+  pub breaks : Breaks rest
+
+pub cut : (t : List ℕ) → Cut t
+cut [] = record { front = []; rest = []; joins = refl; plain = tt; breaks = tt }
+cut (b ∷ t) = cases (decLt b 48) (cut t)
+  where
+    cases : Dec (b < 48) → Cut t → Cut (b ∷ t)
+    cases (yes h) c = record { front = []; rest = b ∷ t; joins = refl; plain = tt; breaks = h }
+    cases (no h) c =
+        let j = c .joins in
+        record {
+          front = b ∷ c .front;
+          rest = c .rest;
+          joins = (λ i. b ∷ j i);
+          plain = (omega arith, c .plain);
+          breaks = c .breaks;
+        }
+
+-- ---- the digits of a number
+
+pub value : ℕ → List ℕ → ℕ
+value v [] = v
+value v (b ∷ w) = value (v * 10 + (b - 48)) w
+
+-- what is to be shown of the digits of n, by how many they are
+module _ (P : List ℕ → Type 0) (n : ℕ) (small : n < 10000) where
+  by-size :
+      (n < 10 → P (digit n ∷ []))
+      → (10 ≤ n → n < 100 → P (digit (n / 10) ∷ digit (n % 10) ∷ []))
+      → (100 ≤ n → n < 1000 → P (digit (n / 100) ∷ digit (n / 10 % 10) ∷ digit (n % 10) ∷ []))
+      → (1000 ≤ n → P (digit (n / 1000) ∷ digit (n / 100 % 10) ∷ digit (n / 10 % 10) ∷ digit (n % 10) ∷ []))
+      → P (digits n)
+  unfolding digits
+  by-size one two three four = cases (decLt n 10) (decLt n 100) (decLt n 1000)
+    where
+      cases : Dec (n < 10) → Dec (n < 100) → Dec (n < 1000) → P (digits n)
+      cases (yes a) y z = rw (lt-ltb n 10 a) (one a)
+      cases (no a) (yes b) z = rw (le-ltb n 10 (omega arith), lt-ltb n 100 b) (two (omega arith) b)
+      cases (no a) (no b) (yes c) =
+          rw (le-ltb n 10 (omega arith), le-ltb n 100 (omega arith), lt-ltb n 1000 c) (three (omega arith) c)
+      cases (no a) (no b) (no c) =
+          rw (le-ltb n 10 (omega arith), le-ltb n 100 (omega arith), le-ltb n 1000 (omega arith))
+          (four (omega arith))
+
+pub digits-plain : (n : ℕ) → n < 10000 → Plain (digits n)
+digits-plain n h =
+    by-size Plain n h (λ a. (omega arith, tt)) (λ l a. (omega arith, (omega arith, tt)))
+    (λ l a. (omega arith, (omega arith, (omega arith, tt))))
+    (λ l. (omega arith, (omega arith, (omega arith, (omega arith, tt)))))
+
+pub digits-length : (n : ℕ) → n < 10000 → length (digits n) ≤ 4
+digits-length n h =
+    by-size (λ l. length l ≤ 4) n h (λ a. omega arith) (λ l a. omega arith) (λ l a. omega arith)
+    (λ l. omega arith)
+
+four-digits : (n : ℕ) → n < 10000 → (((n / 1000 * 10 + n / 100 % 10) * 10 + n / 10 % 10) * 10 + n % 10) ≡ n
+four-digits n h = omega arith
+
+undo : (d : ℕ) → 48 + d - 48 ≡ d
+undo d = omega arith
+
+pub digits-value : (n : ℕ) → n < 10000 → value 0 (digits n) ≡ n
+unfolding value
+digits-value n h =
+    by-size (λ l. value 0 l ≡ n) n h (λ a. simp undo (omega arith)) (λ l a. simp undo (omega arith))
+    (λ l a. simp undo (omega arith))
+    (λ l. simp undo (omega (arith, four-digits n h)))
+
+pub digits-unique : (m n : ℕ) → m < 10000 → n < 10000 → digits m ≡ digits n → m ≡ n
+digits-unique m n h k e = sym (digits-value m h) ∙ ap (value 0) e ∙ digits-value n k
+
+-- a number whose first digit is 0 has no other
+pub zero-alone : (n : ℕ) (w : List ℕ) → n < 10000 → digits n ≡ 48 ∷ w → w ≡ []
+zero-alone n w small =
+    by-size (λ l. l ≡ 48 ∷ w → w ≡ []) n small (λ a e. sym (tail-same e))
+    (λ l a e. let h = head-same e in absurd (let x : ⊥ = omega arith in x))
+    (λ l a e. let h = head-same e in absurd (let x : ⊥ = omega arith in x))
+    (λ l e. let h = head-same e in absurd (let x : ⊥ = omega arith in x))
+
+-- ---- a number at the front of a text
+
+pub record Numbered (t : List ℕ) : Type 0 where
+  pub n : ℕ
+  pub rest : List ℕ
+  pub small : n < 10000
+  pub begins : t ≡ digits n ++ rest
+  pub breaks : Breaks rest
+
+pub numbers-unique : (m n : ℕ) (x y : List ℕ) → m < 10000 → n < 10000 → Breaks x → Breaks y
+    → digits m ++ x ≡ digits n ++ y → (m ≡ n) × (x ≡ y)
+numbers-unique m n x y h k b d e =
+    let r = cut-unique (digits m) (digits n) x y (digits-plain m h) (digits-plain n k) b d e in
+    (digits-unique m n h k (r .0), r .1)
+
+pub number? : (t : List ℕ) → Dec (Numbered t)
+number? t = cases (decLt v 10000) (same? (digits v) (c .front))
+  where
+    c : Cut t
+    c = cut t
+
+    v : ℕ
+    v = value 0 (c .front)
+
+    spelt : (x : Numbered t) → c .front ≡ digits (x .n)
+    spelt x =
+        cut-unique (c .front) (digits (x .n)) (c .rest) (x .rest) (c .plain) (digits-plain (x .n) (x .small))
+        (c .breaks) (x .breaks)
+        (sym (c .joins) ∙ x .begins) .0
+
+    its-value : (x : Numbered t) → v ≡ x .n
+    its-value x = ap (value 0) (spelt x) ∙ digits-value (x .n) (x .small)
+
+    cases : Dec (v < 10000) → Dec (digits v ≡ c .front) → Dec (Numbered t)
+    cases (yes h) (yes e) =
+        yes (record {
+          n = v;
+          rest = c .rest;
+          small = h;
+          begins = c .joins ∙ ap (λ (l : List ℕ). l ++ c .rest) (sym e);
+          breaks = c .breaks;
+        })
+    cases (yes h) (no e) = no (λ x. e (ap digits (its-value x) ∙ sym (spelt x)))
+    cases (no h) e = no (λ x. let q = its-value x in let z = x .small in let y : ⊥ = omega arith in y)
