@@ -1,5 +1,5 @@
--- `ticks::served` meets its contract. Each test that fails denies a part of `TicksServed`; when all three hold,
--- the check of the order decides the last part. There is no loop. Assumes nothing.
+-- `ticks::served` meets its contract. Each test that fails denies a part of `TicksServed`; when all three
+-- hold, the check of the order decides the last part. There is no loop. Assumes nothing.
 use mathlib.Core.List.{[], _∷_}
 use native.Mathlib.Omega.{arith}
 use lib.ListN.{length}
