@@ -1,8 +1,7 @@
 -- Jobs on one network with more than 64 carriers are refused alike, whatever moves they have (hall's
 -- `crowded-job-alike`), so each question of this crate has one answer for all of them. A caller that lends a
 -- longer list of records may therefore put the first 65 of them only. Assumes nothing.
---     crowded-asked, crowded-house, crowded-list    what is answered of one such job may be answered of
---                                                   another
+--     crowded-house, crowded-list    what is answered of one such job may be answered of another
 use mathlib.Core.List.{List, [], _∷_}
 use Prim.Native.Nat.{ℕ, _<_}
 use lib.ListN.{length}
@@ -25,10 +24,6 @@ module _ (N : Network) (order moves moves′ : List ℕ)
       crowded-job-alike N
       moves order (eachWalk N moves ∷ lacking (moveCount moves) c ∷ []) many
       moves′ order (eachWalk N moves′ ∷ lacking (moveCount moves′) c ∷ []) many′
-
-  pub crowded-asked : (r : Checked)
-      → Judged (askedQuestion (jobOf N moves order) c) r → Judged (askedQuestion (jobOf N moves′ order) c) r
-  crowded-asked = ⇒-judged asked-alike
 
   not-housed : {Short : Type 0} → ¬ None (houseOfJob Short (jobOf N moves order) c)
   not-housed none =

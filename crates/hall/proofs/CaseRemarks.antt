@@ -6,9 +6,8 @@
 --     job k         the job of line k of the table, from 0
 --     TruePair k    what holds of every pair of true distances of the first two carriers
 use mathlib.Core.Path.{_≡_, refl, sym, _∙_, ap}
-use mathlib.Core.Logic.{_≢_}
 use mathlib.Core.List.{List, [], _∷_}
-use Prim.Native.Nat.{ℕ, suc, _+_, _≤_, _<_}
+use Prim.Native.Nat.{ℕ, suc, _+_, _<_}
 use native.Mathlib.Omega.{arith}
 use lib.ListN.{length, getD}
 use lib.IntN.{pos}
@@ -18,7 +17,7 @@ use Rattle.hall.specs.Stages.{None}
 use Rattle.hall.specs.Questions.{jobQuestion}
 use Rattle.hall.specs.Rule.{Pair, lead-i, lead-j, gap}
 use Rattle.hall.specs.Ticks.{Tables, pairOf, total}
-use Rattle.hall.specs.Path.{PathOf, ShortestPath, At, Meet, Cross}
+use Rattle.hall.specs.Path.{PathOf, ShortestPath, Meet, Cross}
 use Rattle.hall.specs.Plan.{TablesOf}
 use Rattle.hall.specs.Case.{cases, line4}
 use Rattle.hall.proofs.Walks.{true-distance}

@@ -4,7 +4,7 @@
 -- go on. Assumes nothing.
 --     a ⇒ b         each answer of a is one of b; within a longer question too, b may then stand for a
 --     Alike s t     at each place, what s answers there t answers
-use mathlib.Core.Path.{_≡_, refl, _∙_}
+use mathlib.Core.Path.{_≡_, _∙_}
 use mathlib.Core.Logic.{_↔_}
 use mathlib.Core.List.{[], _∷_, _++_}
 use Prim.Native.Nat.{ℕ}
@@ -16,7 +16,7 @@ use Rattle.hall.specs.Stages.{Check, Stage, Question, FirstOf, here, lat
 use Rattle.hall.specs.Stages.{NoneIn, FirstStage, NoStage, First, None}
 use Rattle.hall.specs.Numbers.{numberOf}
 use Rattle.hall.specs.Said.{Said, accepted, refused, Fits, Judged}
-use Rattle.hall.proofs.Stages.{none-excludes, first-unique, Decided, decided-by}
+use Rattle.hall.proofs.Stages.{Decided, decided-by}
 
 -- ---- a stage in front
 

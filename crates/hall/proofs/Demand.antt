@@ -16,7 +16,7 @@ use Rattle.hall.specs.Floor.{Floor, Symmetric, Dist, floor}
 use Rattle.hall.specs.Job.{Numbers, carriers, start, goal}
 use Rattle.hall.specs.Stages.{None}
 use Rattle.hall.specs.Questions.{checksQuestion}
-use Rattle.hall.specs.Ticks.{Tables, own, pairOf, PermittedBy, StartTicks, goalTick, latest}
+use Rattle.hall.specs.Ticks.{Tables, own, pairOf, PermittedBy, StartTicks}
 use Rattle.hall.specs.Path.{PathOf, ShortestPath, At, Meet, Cross}
 use Rattle.hall.specs.Plan.{DistancesOf, TablesOf, Plan}
 use Rattle.hall.specs.Safety.{Apart, Demand3}

@@ -3,14 +3,14 @@
 -- neighbour with a walk of d lanes, it can be decided which numbers are such neighbours, so there is a lowest
 -- one; from it the rest is the house path by induction over d. A neighbour with a walk of d lanes has
 -- distance d, since a shorter way from it would make a shorter way of the whole. Assumes nothing.
-use mathlib.Core.Path.{_≡_, refl, sym, _∙_, subst}
+use mathlib.Core.Path.{_≡_, sym, _∙_, subst}
 use mathlib.Core.List.{List, [], _∷_}
 use Prim.Native.Nat.{ℕ, zero, suc, _+_, _-_, _≤_, _<_}
 use native.Mathlib.Nat.{le-antisymm, not-suc-le-zero}
 use native.Mathlib.Decide.{decLt}
 use native.Mathlib.Numerals.{add-one}
 use native.Mathlib.Omega.{arith}
-use lib.ListN.{length, getD}
+use lib.ListN.{getD}
 use lib.Seq.{ext-getD}
 use Rattle.hall.specs.Floor.{Floor, Walk, here, step, Dist, Network, floor}
 use Rattle.hall.specs.Path.{PathOf, HousePath}

@@ -3,10 +3,8 @@
 -- the job is one by these tables. So a test of an outcome passes exactly if the outcome is what the
 -- definitions give. Assumes nothing.
 use mathlib.Core.Path.{_≡_, _∙_, ap}
-use mathlib.Core.Logic.{_⊎_, inl, inr}
-use mathlib.Core.List.{List}
+use mathlib.Core.Logic.{_⊎_, inr}
 use Prim.Native.Nat.{ℕ, _+_, _≤_, _<_}
-use native.Mathlib.Omega.{arith}
 use lib.ListN.{length, getD}
 use Rattle.hall.specs.Floor.{DistanceIs, NoWalk, floor}
 use Rattle.hall.specs.Job.{Numbers, carriers, start, goal, EndsOn}

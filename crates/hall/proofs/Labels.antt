@@ -10,7 +10,7 @@ use Prim.Native.Nat.{ℕ, zero, suc, _+_, _≤_, _<_}
 use native.Mathlib.Nat.{not-suc-le-zero, le-refl}
 use native.Mathlib.Decide.{ℕ-discrete}
 use native.Mathlib.Omega.{arith}
-use Rattle.hall.specs.Floor.{Floor, Walk, here, step, Dist, DistanceIs, no-walk, distance}
+use Rattle.hall.specs.Floor.{Floor, Walk, here, step, DistanceIs, no-walk, distance}
 use Rattle.hall.proofs.Walks.{snoc, begins-on-node}
 
 pub record Before (F : Floor) (label : ℕ → ℕ) (v : ℕ) : Type 0 where

@@ -2,18 +2,22 @@
 -- number decides it, so that a new fault changes nothing here; a question whose stages lack 9 gives another
 -- number. A zeroed table keeps its length, is zero below n and as it was from n on, and a loop that sets one
 -- place after the other to zero makes it, by induction over its length. Assumes nothing.
+--     drop-zeroed      a zeroed table behind its first places: zeros, and what stood beyond
+--     filled-none      a table that is filled with no numbers is a zeroed one
+--     filled-front     the numbers stand in front of a filled table
 --     NotNine n        the number n is not 9
 --     Among P q        every number that the question q can give has the property P
-use mathlib.Core.Path.{_≡_, refl, sym, _∙_, ap, subst}
-use mathlib.Core.List.{List, [], _∷_}
-use Prim.Native.Nat.{ℕ, zero, suc, _+_, _≤_, _<_}
+use mathlib.Core.Path.{_≡_, refl, sym, ap, subst}
+use mathlib.Core.List.{List, [], _∷_, _++_}
+use Prim.Native.Nat.{ℕ, zero, suc, _+_, _-_, _≤_, _<_}
 use native.Mathlib.Nat.{not-suc-le-zero, le-of-suc-le-suc}
 use native.Mathlib.Numerals.{add-one}
 use native.Mathlib.Omega.{arith}
-use lib.ListN.{length, getD, set}
+use lib.ListN.{length, getD, set, take, drop, replicate}
+use lib.Seq.{take-at}
 use borrow.Author.Tests.{ne-eqb}
 use Rattle.hall.specs.Stages.{Stage, Question, here, later, FirstAt, FirstStage, First}
-use Rattle.hall.specs.Left.{zeroed, left}
+use Rattle.hall.specs.Left.{zeroed, filled, left}
 
 pub zeroed-length : (n : ℕ) (t : List ℕ) → length (zeroed n t) ≡ length t
 unfolding zeroed
@@ -58,6 +62,30 @@ zeroed-short zero [] h = refl
 zeroed-short zero (x ∷ t) h = absurd (not-suc-le-zero h)
 zeroed-short (suc n) [] h = refl
 zeroed-short (suc n) (x ∷ t) h = ap (λ (l : List ℕ). 0 ∷ l) (zeroed-short n t (le-of-suc-le-suc h))
+
+pub drop-zeroed : (k n : ℕ) (t : List ℕ) → k ≤ n → n ≤ length t
+    → drop k (zeroed n t) ≡ replicate (n - k) 0 ++ drop n t
+unfolding zeroed
+drop-zeroed zero zero t h l = refl
+drop-zeroed (suc k) zero t h l = absurd (not-suc-le-zero h)
+drop-zeroed k (suc n) [] h l = absurd (not-suc-le-zero l)
+drop-zeroed zero (suc n) (x ∷ t) h l =
+    let more : suc n - 0 ≡ suc (n - 0) = omega arith in
+    rw more (ap (λ (u : List ℕ). 0 ∷ u) (drop-zeroed zero n t (omega arith) (le-of-suc-le-suc l)))
+drop-zeroed (suc k) (suc n) (x ∷ t) h l =
+    let less : suc n - suc k ≡ n - k = omega arith in
+    rw less (drop-zeroed k n t (le-of-suc-le-suc h) (le-of-suc-le-suc l))
+
+-- ---- numbers in front
+
+pub filled-none : (n : ℕ) (t : List ℕ) → n ≤ length t → filled [] n t ≡ zeroed n t
+unfolding filled
+filled-none n t h = sym (drop-zeroed 0 n t (omega arith) h)
+
+pub filled-front : (numbers : List ℕ) (least : ℕ) (t : List ℕ) (n : ℕ) → length numbers ≡ n
+    → take n (filled numbers least t) ≡ numbers
+unfolding filled
+filled-front numbers least t n sized = take-at numbers _ n sized
 
 -- ---- what a refusal leaves
 

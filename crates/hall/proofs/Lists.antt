@@ -1,11 +1,11 @@
 -- A walk as a list of nodes: what is said of paths follows for walks. By induction over the walk, a node in
 -- front at each lane. Assumes nothing.
-use mathlib.Core.Path.{_≡_, refl}
+use mathlib.Core.Path.{refl}
 use mathlib.Core.List.{List, [], _∷_}
 use Prim.Native.Nat.{ℕ, zero, suc, _+_, _≤_, _<_}
 use native.Mathlib.Numerals.{add-one}
 use native.Mathlib.Omega.{arith}
-use lib.ListN.{length, getD}
+use lib.ListN.{getD}
 use Rattle.hall.specs.Floor.{Floor, Walk, here, step}
 use Rattle.hall.specs.Path.{PathOf}
 

@@ -4,9 +4,7 @@
 -- With `all-cases` (Cases.antt) each line of the table is therefore the only outcome of its job. Assumes
 -- nothing.
 use mathlib.Core.Path.{_≡_, sym, _∙_}
-use mathlib.Core.List.{List}
-use Prim.Native.Nat.{ℕ, _<_}
-use lib.ListN.{length, getD}
+use lib.ListN.{getD}
 use lib.Seq.{ext-getD}
 use Rattle.hall.specs.Job.{Numbers, carriers}
 use Rattle.hall.specs.Said.{accepted, refused}

@@ -1,13 +1,12 @@
 -- Where a node of a shortest path lies: m lanes from its start and d − m from its goal, since a shorter way
 -- to it or from it would make a shorter walk of the whole. Assumes nothing.
-use mathlib.Core.Path.{_≡_, refl}
 use mathlib.Core.List.{List}
-use Prim.Native.Nat.{ℕ, zero, suc, _+_, _-_, _≤_, _<_}
+use Prim.Native.Nat.{ℕ, zero, suc, _+_, _-_, _≤_}
 use native.Mathlib.Nat.{add-zero, add-suc, zero-add, add-sub-of-le}
 use native.Mathlib.Numerals.{add-one}
 use native.Mathlib.Omega.{arith}
-use lib.ListN.{length, getD}
-use Rattle.hall.specs.Floor.{Floor, Walk, here, step, Dist}
+use lib.ListN.{getD}
+use Rattle.hall.specs.Floor.{Floor, Walk, here, Dist}
 use Rattle.hall.specs.Path.{PathOf, ShortestPath}
 use Rattle.hall.proofs.Walks.{join, snoc}
 use Rattle.hall.proofs.Lists.{listed}

@@ -1,15 +1,15 @@
 -- More numbers than places: two in one place. So a distance is below the number of nodes, since a shortest
 -- path stands on no node twice, and an order of k different carrier numbers below k lists them all. Assumes
 -- nothing.
-use mathlib.Core.Path.{_≡_, refl, sym, _∙_, ap, subst}
+use mathlib.Core.Path.{_≡_, sym, _∙_, ap}
 use mathlib.Core.Logic.{_≢_}
 use mathlib.Core.List.{List}
-use Prim.Native.Nat.{ℕ, zero, suc, _+_, _≤_, _<_, zero-le}
-use native.Mathlib.Nat.{not-suc-le-zero, le-refl}
-use native.Mathlib.Decide.{ℕ-discrete, decLt}
+use Prim.Native.Nat.{ℕ, zero, suc, _≤_, _<_, zero-le}
+use native.Mathlib.Nat.{not-suc-le-zero}
+use native.Mathlib.Decide.{ℕ-discrete}
 use native.Mathlib.Omega.{arith}
-use lib.ListN.{length, getD}
-use Rattle.hall.specs.Floor.{Floor, Walk, Dist}
+use lib.ListN.{getD}
+use Rattle.hall.specs.Floor.{Floor, Dist}
 use Rattle.hall.specs.Path.{PathOf}
 use Rattle.hall.proofs.Walks.{dist-unique}
 use Rattle.hall.proofs.Lists.{listed}

@@ -17,7 +17,7 @@ use Rattle.hall.specs.declared.Checked.the-variants.{Sound, Refused}
 use Rattle.hall.specs.Stages.{Stage, Question, here, later, ClearAt, FirstAt, FirstIn, NoneIn}
 use Rattle.hall.specs.Stages.{FirstStage, First, None, once, only-at, at-each}
 use Rattle.hall.specs.Said.{accepted, refused, Judged}
-use Rattle.hall.proofs.Stages.{SettledAt, faulty, clean, Settled, refuses, passes, settled}
+use Rattle.hall.proofs.Stages.{SettledAt, faulty, clean, Settled, refuses, passes}
 use Rattle.hall.proofs.Stages.{Decided, decided-by}
 use Rattle.hall.proofs.Compose.{first-here, first-later, none-more, none-at-all}
 use Rattle.hall.proofs.Compose.{refused-first, sound-none}

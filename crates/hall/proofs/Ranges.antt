@@ -1,19 +1,18 @@
 -- How large the signed values of the rule can be (rules 4.3 and 4.4): a lead is from −1,023 to 1,023, the gap
--- from −2,046 to 2,046. If a walk joins the two starts then walks join all four
--- ends, through each other, so none of the six numbers is the mark, and each is at most 1,023; the values are
--- differences and sums of these. Then rules 4.5, 4.6 and 4.9, each from one part of `Forbidden`. Assumes
--- nothing.
---     Joined6    all six numbers of a pair are distances, at most 1,023
+-- from −2,046 to 2,046. If a walk joins the two starts then walks join all four ends, through each other, so
+-- none of the six numbers is the mark, and each is at most 1,023; the values are differences and sums of
+-- these. Then rules 4.5, 4.6 and 4.9, each from one part of `Forbidden`. Assumes nothing.
+--     Joined6           all six numbers of a pair are distances, at most 1,023
+--     network-joined    those of two moves on a network are, if a walk joins the starts
 use mathlib.Core.Path.{_≡_}
 use mathlib.Core.Logic.{_≢_}
-use mathlib.Core.List.{List}
 use Prim.Native.Nat.{ℕ, _+_, _≤_, _<_}
 use native.Mathlib.Omega.{arith}
 use lib.IntN.{ℤ, pos, negℤ}
 use lib.Signed.{_≤ℤ_}
-use Rattle.hall.specs.Limits.{nodeLimit}
-use Rattle.hall.specs.Floor.{Floor, Symmetric, Walk, Dist, Network, floor}
-use Rattle.hall.specs.Rule.{Pair, lead-i, lead-j, gap, Forbidden, Permitted}
+use Rattle.hall.specs.Limits.{nodeLimit, noWalkMark}
+use Rattle.hall.specs.Floor.{Floor, Symmetric, Walk, Network, floor}
+use Rattle.hall.specs.Rule.{Pair, lead-i, lead-j, gap, Permitted}
 use Rattle.hall.specs.Plan.{DistancesOf}
 use Rattle.hall.proofs.Ints.{up, down, up-pos, down-pos, up-neg, down-neg, le-law}
 use Rattle.hall.proofs.Walks.{join, reverse, true-distance, distance-small, lanes-symmetric}
@@ -49,6 +48,11 @@ module _ {F : Floor} (both-ways : Symmetric F) (n : ℕ) (finite : (v : ℕ) →
 
       j : Walk F sj gj (p .jj)
       j = six .own-j .walk
+
+-- and so of two moves on a network
+pub network-joined : (N : Network) → N .nodes ≤ nodeLimit → {si gi sj gj : ℕ} {p : Pair}
+    → DistancesOf (floor N) si gi sj gj p → p .ss ≢ noWalkMark → Joined6 p
+network-joined N limit six = all-joined (lanes-symmetric N) (N .nodes) (λ v h. h) limit six
 
 -- ---- the ranges
 

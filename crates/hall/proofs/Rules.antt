@@ -1,9 +1,9 @@
 -- The rule in signed numbers and the rule with additions only are one rule. Assumes nothing.
-use mathlib.Core.Path.{_≡_, refl, sym, _∙_, ap, subst}
+use mathlib.Core.Path.{_≡_}
 use mathlib.Core.Logic.{_↔_, _⊎_, inl, inr}
-use Prim.Native.Nat.{ℕ, zero, suc, _+_, _%_, _≤_}
+use Prim.Native.Nat.{ℕ, _+_, _%_, _≤_}
 use native.Mathlib.Omega.{arith}
-use lib.IntN.{ℤ, pos, negℤ, _+ℤ_, _-ℤ_, natAbs}
+use lib.IntN.{ℤ, pos, negℤ, _-ℤ_}
 use lib.Signed.{_≤ℤ_}
 use Rattle.hall.specs.Rule.{Pair, lead-i, lead-j, gap, Odd, Excepted, Forbidden, Excepted⁺, Forbidden⁺}
 use Rattle.hall.proofs.Ints.{up, down, up-neg, down-neg, minus-law, diff-law, le-law, eq-law, abs-law}

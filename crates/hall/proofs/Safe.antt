@@ -1,14 +1,14 @@
 -- Pair safety (source document 000, Theorem 5, "⇐"): at a permitted difference no two shortest paths of the
 -- two carriers meet or cross. Assumes nothing.
-use mathlib.Core.Path.{_≡_, refl, sym, _∙_, ap, subst}
-use mathlib.Core.Logic.{_↔_, _⊎_, inl, inr, _≢_}
+use mathlib.Core.Path.{_≡_, sym, _∙_, ap}
+use mathlib.Core.Logic.{_⊎_, inl, inr, _≢_}
 use mathlib.Core.List.{List}
-use Prim.Native.Nat.{ℕ, zero, suc, _+_, _-_, _%_, _≤_, _<_}
+use Prim.Native.Nat.{ℕ, _+_, _-_, _≤_}
 use native.Mathlib.Omega.{arith}
 use lib.ListN.{length, getD}
 use lib.IntN.{pos, _-ℤ_}
-use Rattle.hall.specs.Floor.{Floor, Symmetric, Walk, Dist, DistanceIs, no-walk, distance}
-use Rattle.hall.specs.Rule.{Pair, Forbidden, Permitted, Excepted⁺, Forbidden⁺}
+use Rattle.hall.specs.Floor.{Floor, Symmetric, Walk, DistanceIs, no-walk, distance}
+use Rattle.hall.specs.Rule.{Pair, Forbidden, Permitted, Forbidden⁺}
 use Rattle.hall.specs.Path.{PathOf, At, Meet, Cross}
 use Rattle.hall.specs.Plan.{DistancesOf}
 use Rattle.hall.proofs.Walks.{join, reverse}

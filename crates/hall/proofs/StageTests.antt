@@ -4,17 +4,15 @@
 --     ChecksAt s p    each check of the stage s has a test at place p
 --     Tested s        so at every place, and from some place on the stage is clear
 --     TestedAll q     so has each stage of q
-use mathlib.Core.Path.{_≡_}
 use mathlib.Core.Logic.{_⊎_, inl, inr}
-use mathlib.Core.Bool.{Bool, true, false}
 use mathlib.Core.List.{[], _∷_, _++_}
 use Prim.Native.Nat.{ℕ, suc, _≤_, _<_}
 use native.Mathlib.Omega.{arith}
 use native.Mathlib.Decide.{decLt}
-use Rattle.hall.specs.Stages.{Check, Stage, Question, FirstOf, here, later, ClearAt, FirstAt, FirstIn, NoneIn}
+use Rattle.hall.specs.Stages.{Stage, Question, FirstOf, here, later, ClearAt, FirstAt, FirstIn, NoneIn}
 use Rattle.hall.specs.Stages.{FirstStage, NoStage, First, None, once, at-each}
 use Rattle.hall.proofs.Test.{Test, dec, lt?, eq?, not?, never?, always?, _and?_, _or?_, map?, all?}
-use Rattle.hall.proofs.Stages.{SettledAt, settled-at, DecidedAt, Settled, settled}
+use Rattle.hall.proofs.Stages.{settled-at, DecidedAt, Settled, settled}
 use Rattle.hall.proofs.Stages.{Decided, decided-none, decided-more}
 
 abbrev pub ChecksAt : Stage → ℕ → Type 0

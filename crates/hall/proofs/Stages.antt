@@ -18,7 +18,6 @@ use native.Mathlib.Omega.{arith}
 use borrow.Author.Count.{below-more}
 use Rattle.hall.specs.declared.Checked.{Checked}
 use Rattle.hall.specs.declared.Checked.the-variants.{Sound, Refused}
-use Rattle.hall.specs.Numbers.{numberOf}
 use Rattle.hall.specs.Stages.{Stage, Question, here, later, ClearAt, FirstAt, FirstIn, NoneIn}
 use Rattle.hall.specs.Stages.{FirstStage, NoStage, First, None}
 use Rattle.hall.specs.Said.{Said, accepted, refused, Fits, Judged}

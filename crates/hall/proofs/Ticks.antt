@@ -11,9 +11,9 @@ use native.Mathlib.Omega.{arith}
 use lib.ListN.{length, getD}
 use lib.IntN.{pos, _-ℤ_}
 use Rattle.hall.specs.Rule.{Pair, Permitted, Forbidden⁺}
-use Rattle.hall.specs.Ticks.{SmallestFrom, PermittedBy, Tables, own, pairOf, PermittedAt, StartTicks, goalTick, latest, total, costOf}
+use Rattle.hall.specs.Ticks.{SmallestFrom, PermittedBy, Tables, own, pairOf, PermittedAt, StartTicks, goalTick, latest, total}
 use Rattle.hall.proofs.Rules.{forbidden-iff}
-use Rattle.hall.proofs.Pigeon.{Listed, all-listed}
+use Rattle.hall.proofs.Pigeon.{all-listed}
 
 -- a tick past i's goal tick is permitted
 pub past-goal : (p : Pair) (ti tj : ℕ) → ti + p .ii < tj → Permitted p (pos tj -ℤ pos ti)

@@ -1,12 +1,10 @@
 -- Laws of walks and distances, over any floor: walks join and turn round, distances are unique and symmetric
 -- and obey the triangle inequality. Each is an induction over one walk. Assumes nothing.
-use mathlib.Core.Path.{_≡_, refl, sym, _∙_}
+use mathlib.Core.Path.{_≡_, sym, _∙_}
 use mathlib.Core.Logic.{_⊎_, inl, inr, _≢_}
-use mathlib.Core.List.{List}
-use Prim.Native.Nat.{ℕ, zero, suc, _+_, _≤_, _<_, zero-le}
+use Prim.Native.Nat.{ℕ, suc, _+_, _≤_, zero-le}
 use native.Mathlib.Nat.{zero-add, suc-add, le-antisymm}
-use native.Mathlib.Omega.{arith}
-use Rattle.hall.specs.Floor.{Floor, Symmetric, Walk, here, step, Dist, NoWalk, DistanceIs, no-walk, distance, Lane, Network, floor}
+use Rattle.hall.specs.Floor.{Floor, Symmetric, Walk, here, step, Dist, DistanceIs, no-walk, distance, Network, floor}
 
 module _ {F : Floor} where
   pub join : {a b c m n : ℕ} → Walk F a b m → Walk F b c n → Walk F a c (m + n)

@@ -6,14 +6,14 @@
 use mathlib.Core.Path.{_≡_, sym, subst}
 use mathlib.Core.Logic.{_↔_, _⊎_, inl, inr, _≢_}
 use mathlib.Core.List.{List}
-use Prim.Native.Nat.{ℕ, zero, suc, _+_, _/_, _%_, _≤_, _<_}
+use Prim.Native.Nat.{ℕ, zero, suc, _/_, _%_, _<_}
 use native.Mathlib.Nat.{not-suc-le-zero}
 use native.Mathlib.Decide.{decLt}
 use native.Mathlib.Omega.{arith}
 use lib.ListN.{length}
-use Rattle.hall.specs.Limits.{nodeLimit, laneLimit, carrierLimit}
-use Rattle.hall.specs.Floor.{Network, laneCount, lower, higher, Lane, floor}
-use Rattle.hall.specs.Job.{Numbers, carriers, start, goal, at-place, EndsOn}
+use Rattle.hall.specs.Limits.{nodeLimit, laneLimit}
+use Rattle.hall.specs.Floor.{Network, laneCount, lower, higher, Lane}
+use Rattle.hall.specs.Job.{Numbers, carriers, start, goal}
 use Rattle.hall.specs.Refusals.{Exceeds, by-lower, by-higher, LaneFault, no-node, not-below, not-rising}
 use Rattle.hall.specs.Refusals.{OffFloor-at, SharedEnd-at, BadOrder-at, no-carrier, stands-earlier}
 use Rattle.hall.specs.Stages.{None}

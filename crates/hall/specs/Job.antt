@@ -4,7 +4,7 @@
 --     Numbers          the numbers of a job: its network; its moves, by carrier number; its order, which
 --                      lists carrier numbers by place
 --     jobOf            the job of lent numbers; the one place where a job is put together
---     carriers         how many carriers there are: the counts are the lengths of the lent lists
+--     carriers         how many carriers there are, which the length of the moves' list tells
 --     start, goal      the start and the goal of the carrier with a number
 --     at-place         the carrier number at a place in the order: the two kinds of number are kept apart
 --     EndsOn F moves   every start and every goal of the moves is a node of the floor

@@ -1,23 +1,24 @@
--- What is left in a lent table (rules 9.1 to 9.4).
+-- What is left in a lent table (rules 9.1 to 9.6, 9.9, 9.11 and 9.13).
 --     zeroed n t     the table t with its first n places zero, all of them where it is shorter; beyond it is
 --                    as it came
---     whichever      the first table if a test is true, and otherwise the second
+--     filled         numbers in front of a table, zeros behind them up to its least length, and beyond it
+--                    what stood there
 --     left k n t     a table of least length n after the refusal with the number k: 9 leaves it as it came,
 --                    every other zeroes the least length. Where the rules say otherwise, as of records and
 --                    order after planning, the question's own promise does
-use mathlib.Core.List.{List, [], _∷_}
-use mathlib.Core.Bool.{Bool, true, false}
-use Prim.Native.Nat.{ℕ, zero, suc}
+use mathlib.Core.List.{List, [], _∷_, _++_}
+use mathlib.Core.Bool.{cond}
+use Prim.Native.Nat.{ℕ, zero, suc, _-_}
 use lib.Dec.{eqb}
+use lib.ListN.{length, drop, replicate}
 
 unfoldable pub zeroed : ℕ → List ℕ → List ℕ
 zeroed zero t = t
 zeroed (suc n) [] = []
 zeroed (suc n) (x ∷ t) = 0 ∷ zeroed n t
 
-abbrev pub whichever : Bool → List ℕ → List ℕ → List ℕ
-whichever true t u = t
-whichever false t u = u
+unfoldable pub filled : (numbers : List ℕ) (least : ℕ) (table : List ℕ) → List ℕ
+filled numbers least table = numbers ++ (replicate (least - length numbers) 0 ++ drop least table)
 
 abbrev pub left : (number least : ℕ) → List ℕ → List ℕ
-left k n t = whichever (eqb k 9) t (zeroed n t)
+left k n t = cond (eqb k 9) t (zeroed n t)

@@ -1,7 +1,7 @@
 -- Paths, where a carrier stands at a tick, meeting and crossing (rules 3.4 to 3.6 and 6.1 to 6.3).
 --     PathOf F s g d l    the list l is a path of d lanes from s to g: it has d + 1 numbers, each of them a
---                         node of the floor, begins at the start, ends at the goal, and a lane joins each to
---                         the next
+--                         node of the floor, the first is s, the last is g, and a lane leads from each to the
+--                         next
 --     ShortestPath        a path whose d is the distance of start and goal
 --     HousePath           a shortest path on which each next node has the lowest number of all that a lane
 --                         joins to where it stands and that are one lane nearer to the goal

@@ -5,8 +5,8 @@
 --                    included
 --     Plan           the tables are those of the job, each carrier has a walk from its start to its goal, the
 --                    ticks are the start ticks by the order, and the cost is the sum of the goal ticks
---     tablesIn       the three tables in a list of numbers, in three blocks: start to start, start to goal
---                    (i's start, j's goal), goal to goal, each at 64 × i + j
+--     tablesIn       the three tables in one list of numbers, a block of 4,096 for each in the order of
+--                    `Tables`; in its block the distance of carriers i and j stands at 64 × i + j
 use mathlib.Core.Path.{_≡_}
 use mathlib.Core.Logic.{_≢_}
 use mathlib.Core.List.{List}

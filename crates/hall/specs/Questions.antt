@@ -1,7 +1,7 @@
 -- Every question from numbers as its list of stages, in the order in which its checks are made (rules 8.22 to
 -- 8.29). To change an order, or to add a check, is to change a list here. What a question adds of its own
--- comes in as a statement: `Short`, that a lent table is shorter than its least length; `Unfit`, that a
--- proposed list is no shortest path.
+-- comes in as a statement: `Short`, that a table lent to be filled lacks places; `Unfit`, that the list put
+-- forward is none of the shortest paths.
 --     nodesCount, lanesCount, carriersCount, orderCount    2, each count at its place: 0, 1, 2 and 3. The
 --                        lanes' is how many numbers their list has
 --     laneChecks         3, of the lane at a place

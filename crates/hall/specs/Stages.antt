@@ -1,7 +1,7 @@
 -- A question as a list of stages (rule 8.20). The order in which faults are looked for is the order of the
 -- list: no number has a turn of its own, and nothing here names one.
---     Check            a number, and the places where it is given
---     f when At        the check of a fault: the number of the fault f is given at the places where At holds
+--     Check            a number, and the places where it holds
+--     f when At        the check of a fault: the number of the fault f holds at the places where At does
 --     Stage            checks that are asked together, place by place
 --     Question         stages, in the order in which they are asked
 --     FirstOf          of a list: its head has it, or the head is clear and the rest has it
@@ -13,7 +13,8 @@
 --                      `FirstStage` says stage by stage
 --     None q           nothing of q holds: no stage has anything (`NoStage`)
 --     once n i P       the number n at the place i alone, if P
---     asked f i P      the same of a fault: a count (2), a short table (9), a carrier named (10)
+--     asked f i P      the same of a fault: a count (2), the walk of a single move (8), a short table (9), a
+--                      carrier named (10), a list put forward (11)
 --     only-at i s      the checks of s at the place i alone, in turn: those of a single move
 --     at-each n s      those of s at each place below n: an entry's place is its number in its section, from
 --                      0

@@ -4,8 +4,8 @@
 --     PermittedBy         tick x is permitted against the first n of some carriers that are already placed,
 --                         each with the pair that it makes with the new one (the placed one is i, the new one
 --                         j) and with its own start tick
---     Tables              the three tables of distances by carrier numbers: start to start, start to goal
---                         (i's start, j's goal), goal to goal
+--     Tables              the three tables of distances by the numbers of two carriers: between their
+--                         starts, from the start of the first to the goal of the second, between their goals
 --     own                 a carrier's own distance
 --     pairOf t i j        the six distances of carriers i and j
 --     PermittedAt         the same for the carrier at place q of an order, against those at the places before
@@ -17,7 +17,6 @@
 --     latest              the latest of the goal ticks at the places before q, 0 if q is 0
 --     total, costOf       the cost is the sum of the goal ticks (source document 000, Definition 2: the sum
 --                         over the agents of their arrival times)
-use mathlib.Core.Path.{_≡_}
 use mathlib.Core.List.{List}
 use Prim.Native.Nat.{ℕ, zero, suc, _+_, _≤_, _<_, max}
 use lib.ListN.{length, getD}

@@ -30,7 +30,7 @@ pub record WellFormed (j : Numbers) : Type 0 where
   -- each move's start and goal are nodes, and differ
   pub ends-on : EndsOn (floor (j .network)) (j .moves)
   pub ends-differ : (i : ℕ) → i < carriers j → start j i ≢ goal j i
-  -- no two moves share a start, and no two share a goal
+  -- different moves have different starts, and different goals
   pub starts-differ : (i k : ℕ) → i < carriers j → k < carriers j → i ≢ k → start j i ≢ start j k
   pub goals-differ : (i k : ℕ) → i < carriers j → k < carriers j → i ≢ k → goal j i ≢ goal j k
   -- the order has as many places as there are carriers, and lists each of them, each once

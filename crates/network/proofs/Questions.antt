@@ -24,7 +24,7 @@ each-inside (c ∷ s) {n} {i} l =
     both p = (λ h. (h .0, (l, h .1)), λ h. (h .0, h .1 .1))
 
 -- a question without what never holds after it
-pub left-out : (a b : Question) → None b → a ++ b ⇒ a
+left-out : (a b : Question) → None b → a ++ b ⇒ a
 left-out a b none = record { firsts = λ f p h. cases (first-split a b h); nones = λ n. none-split a b n .0 }
   where
     cases : {f p : ℕ} → FirstOf (First a f p) (None a) (First b f p) → First a f p

@@ -284,7 +284,7 @@ pub fn check_network(nodes: usize, lanes: &[u16]) -> Checked
     check_lanes(nodes, lanes)
 }
 
-// A whole job: 2 (nodes, lanes, carriers, order), 3, then 4 to 6 for each move in turn, then 7.
+// A whole job: its counts (2), its lanes (3), its moves one after the other (4 to 6), its order (7).
 pub fn check_job(nodes: usize, lanes: &[u16], moves: &[u16], order: &[u16]) -> Checked
     ensures { λ r. ⌜ Judged
         (checksQuestion

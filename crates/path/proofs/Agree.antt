@@ -7,7 +7,7 @@ use mathlib.Core.List.{List}
 use Prim.Native.Nat.{ℕ, zero, suc, _≤_}
 use native.Mathlib.Numerals.{add-one}
 use native.Mathlib.Omega.{arith}
-use lib.ListN.{length, getD, take}
+use lib.ListN.{getD, take}
 use Rattle.hall.specs.declared.Checked.{Checked}
 use Rattle.hall.specs.declared.Checked.the-variants.{Sound}
 use Rattle.hall.specs.Floor.{Floor, Network}
@@ -60,7 +60,3 @@ module _ {F : Floor} {s g d : ℕ} {l l′ : List ℕ} (h : HousePath F s g d l)
       let next = next-le h other-path k (omega (arith, h .is-path .size)) (same k (omega arith)) in
       let le : getD l (suc k) 0 ≤ getD l′ (suc k) 0 = rw add-one at next in
       omega arith
-
-  -- and as long
-  pub house-as-long : length l ≡ length l′
-  house-as-long = h .is-path .size ∙ sym (other-path .size)

@@ -6,8 +6,8 @@
 --     Nearer         one end of a lane was looked at: node b was taken for the best so far, or not
 --     LowestNext     the lowest-numbered neighbour at the wanted distance, or the mark if there is none
 --     Laid           the first places of the list are the house path, and the others are as they came
---     Walks          the list begins at the start, ends at the goal and joins consecutive numbers by lanes,
---                    whatever its length
+--     Walks          the list is a walk of the move, whatever its length: its first number is the start, its
+--                    last the goal, and lanes lead from each to the next
 use mathlib.Core.Path.{_≡_}
 use mathlib.Core.Logic.{_⊎_, _≢_}
 use mathlib.Core.List.{List}

@@ -164,7 +164,8 @@ fn joined(lanes: &[u16], a: u16, b: u16) -> bool
     false
 }
 
-// Whether the list begins at the start, ends at the goal and joins consecutive nodes by lanes.
+// Whether the list is a walk of the move: its first number is the start, its last the goal, and lanes lead
+// from each to the next.
 fn walks(lanes: &[u16], start: u16, goal: u16, list: &[u16]) -> bool
     ensures { λ r. ⌜ Answers r (Walks (now (lanes .entry)) start goal (now (list .entry))) ⌝ }
 {

@@ -23,7 +23,7 @@ use Rattle.hall.proofs.Sound.{nodes-limit, carriers-limit, order-length, ends-o
 use Rattle.tables.specs.Filling as filling
 use Rattle.tables.specs.declared.Reach.{Reach}
 use Rattle.tables.specs.declared.Reach.the-variants.{All, Lost}
-use Rattle.tables.specs.Filling.{TableFilled, Filling, FirstLost, NoneLost, looked, unserved}
+use Rattle.tables.specs.Filling.{TableFilled, Filling, NoneLost, looked, unserved}
 use Rattle.tables.specs.Filling.{saidReach, Reaching}
 use Rattle.ticks.specs.Timing as timing
 use Rattle.ticks.specs.Timing.{Given, TicksUntouched, saidTimed, Timing}

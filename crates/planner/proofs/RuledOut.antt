@@ -5,8 +5,8 @@
 --     OneAtATime                              each carrier starts after the one before it in the order has
 --                                             reached its goal
 --     not-all-at-zero, not-one-at-a-time      a planner that does so answers a case wrongly
---     sound-not-refused                       a job without faults, lent enough, is not refused: not every
---                                             job is
+--     refused-for-a-fault, sound-not-refused  a refusal is the first fault that holds, so a job without
+--                                             faults, lent enough, is not refused: not every job is
 --     checks-before-walks, lowest-unreached   8 comes after 2 to 7, and at the lowest carrier number
 --     short-untouched                         9 leaves all lists as they came
 use mathlib.Core.Path.{_≡_, ap, _∙_}
@@ -57,7 +57,11 @@ module _ (before after : Lent) (s : Said ℕ) (roomy : ¬ ShortOf before) where
   not-one-at-a-time a one = omega (arith, page-cases 4 (omega arith) before after s roomy a .1 1 (omega arith), one 0 (omega arith))
 
 module _ (j : Numbers) (before after : Lent) (n p : ℕ) (a : Planning j before after (refused n p)) where
-  -- a job without faults is not refused
+  -- a refusal is the first fault that holds
+  pub refused-for-a-fault : First (planQuestion j before) n p
+  refused-for-a-fault = a .first
+
+  -- so a job without faults is not refused
   pub sound-not-refused : ¬ None (planQuestion j before)
   sound-not-refused = none-excludes (a .first)
 

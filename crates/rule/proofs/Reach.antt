@@ -13,14 +13,14 @@ use lib.ListN.{length}
 use Rattle.hall.specs.Rule.{Pair}
 use Rattle.hall.specs.Ticks.{SmallestFrom, PermittedBy}
 use Rattle.rule.specs.Held.{heldPair, heldTick}
-use Rattle.rule.specs.Reach.{Reached, PermittedByHeld, PassedOne, Swept}
+use Rattle.rule.specs.Reach.{TickReached, PermittedByHeld, PassedOne, Swept}
 use Rattle.rule.proofs.Stretch.{Free, free-bound, free-onward}
 
-pub reached-here : (t : ℕ) (Permits : ℕ → Type 0) → Reached t Permits t
+pub reached-here : (t : ℕ) (Permits : ℕ → Type 0) → TickReached t Permits t
 reached-here t Permits = record { not-before = le-refl t; none-before = λ y h p. h }
 
 pub reached-further : {a b x : ℕ} {Permits : ℕ → Type 0}
-    → Reached a Permits b → Reached b Permits x → Reached a Permits x
+    → TickReached a Permits b → TickReached b Permits x → TickReached a Permits x
 reached-further r s = record {
   not-before = omega (arith, r .not-before, s .not-before);
   none-before = λ y h p. s .none-before y (r .none-before y h p) p;
@@ -28,12 +28,12 @@ reached-further r s = record {
 
 -- a reached tick that is permitted is the smallest
 pub reached-smallest : {a x : ℕ} {Permits : ℕ → Type 0}
-    → Reached a Permits x → Permits x → SmallestFrom a Permits x
+    → TickReached a Permits x → Permits x → SmallestFrom a Permits x
 reached-smallest r p = record { not-before = r .not-before; permitted = p; least = r .none-before }
 
 -- the first tick that one of the carriers permits is reached against all of them
 pub reached-by-one : (n : ℕ) (pair : ℕ → Pair) (tick : ℕ → ℕ) (p : ℕ) {t x : ℕ}
-    → p < n → SmallestFrom t (Free (pair p) (tick p)) x → Reached t (PermittedBy n pair tick) x
+    → p < n → SmallestFrom t (Free (pair p) (tick p)) x → TickReached t (PermittedBy n pair tick) x
 unfolding PermittedBy
 reached-by-one n pair tick p h s =
     record { not-before = s .not-before; none-before = λ y l all. s .least y l (all p h) }
@@ -54,7 +54,7 @@ permitted-by-more n pair tick x all one p h = cases (decLt p n)
 -- a pass over the held carriers that began at a tick, has asked those before a place, and is now at another
 pub record SweptTo (held : List ℕ) (from place tick : ℕ) : Type 0 where
   -- no tick that all permit was passed
-  pub reached : Reached from (PermittedByHeld held (length held / 7)) tick
+  pub reached : TickReached from (PermittedByHeld held (length held / 7)) tick
   -- if nothing moved, each that was asked permits the tick
   pub still : tick ≡ from → PermittedByHeld held place from
   -- if something moved, a carrier was passed for good
@@ -117,7 +117,7 @@ module _ (held : List ℕ) (from : ℕ) where
 
 -- a reached tick that a whole pass does not move is the smallest that all permit
 pub swept-smallest : (held : List ℕ) (from tick next : ℕ)
-    → Reached from (PermittedByHeld held (length held / 7)) tick → Swept held tick next → next ≤ tick
+    → TickReached from (PermittedByHeld held (length held / 7)) tick → Swept held tick next → next ≤ tick
     → SmallestFrom from (PermittedByHeld held (length held / 7)) tick
 swept-smallest held from tick next r s h =
     reached-smallest r (s .still (omega (arith, s .reached .not-before)))

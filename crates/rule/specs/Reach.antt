@@ -1,13 +1,13 @@
 -- What a tick on the way to the first permitted one (rule 5.3) satisfies. Inner functions promise these; no
 -- public promise cites them.
---     Reached            x is no earlier than a given tick, and no tick from that one up and before x is
+--     TickReached        x is no earlier than a given tick, and no tick from that one up and before x is
 --                        permitted
 --     PermittedByHeld    tick x is permitted by the first n held carriers
 --     PassedOne          between a given tick and x a held carrier was passed for good: it does not permit
 --                        some tick from the given one up, and permits every tick from x up
---     Swept              x, from a given tick: Reached against all held carriers; if it is that very tick,
---                        then it is permitted by all, and if it is later, PassedOne; and it stays within what
---                        a start tick and a distance of 32 bits can make
+--     Swept              x, from a given tick: TickReached against all held carriers; if it is that very
+--                        tick, it is permitted by all, and if it is later, PassedOne; and it stays within
+--                        what a start tick and a distance of 32 bits can make
 use mathlib.Core.Path.{_≡_}
 use mathlib.Core.List.{List}
 use Prim.Native.Nat.{ℕ, _/_, _≤_, _<_}
@@ -17,7 +17,7 @@ use Rattle.hall.specs.Rule.{Permitted}
 use Rattle.hall.specs.Ticks.{PermittedBy}
 use Rattle.rule.specs.Held.{heldPair, heldTick}
 
-pub record Reached (from : ℕ) (Permits : ℕ → Type 0) (x : ℕ) : Type 0 where
+pub record TickReached (from : ℕ) (Permits : ℕ → Type 0) (x : ℕ) : Type 0 where
   pub not-before : from ≤ x
   pub none-before : (y : ℕ) → from ≤ y → Permits y → x ≤ y
 
@@ -33,7 +33,7 @@ pub record PassedOne (held : List ℕ) (from x : ℕ) : Type 0 where
   pub free-on : (y : ℕ) → x ≤ y → Permitted (heldPair held place) (pos y -ℤ pos (heldTick held place))
 
 pub record Swept (held : List ℕ) (from x : ℕ) : Type 0 where
-  pub reached : Reached from (PermittedByHeld held (length held / 7)) x
+  pub reached : TickReached from (PermittedByHeld held (length held / 7)) x
   pub still : x ≡ from → PermittedByHeld held (length held / 7) from
   pub passed : from < x → PassedOne held from x
   pub within : x ≤ 8589934591

@@ -3,14 +3,14 @@
 -- next carrier leaves the earlier ones the smallest that they were. When all places are done, the ticks are
 -- the start ticks by the order. The bound: a table's number is below 65,536, so each place adds at most that
 -- much. Assumes nothing.
-use mathlib.Core.Path.{_≡_, refl, sym, _∙_, subst}
+use mathlib.Core.Path.{_≡_, refl, sym, _∙_}
 use mathlib.Core.Logic.{_≢_}
 use mathlib.Core.List.{List}
 use Prim.Native.Nat.{ℕ, _+_, _*_, _≤_, _<_}
 use native.Mathlib.Nat.{not-suc-le-zero}
 use native.Mathlib.Decide.{decLt}
 use native.Mathlib.Omega.{arith}
-use lib.ListN.{length, getD, set, length-set}
+use lib.ListN.{length, getD, length-set}
 use lib.Seq.{getD-set-same, getD-set-other}
 use Rattle.hall.specs.Limits.{carrierLimit, blockLength}
 use Rattle.hall.specs.Ticks.{SmallestFrom, PermittedAt, pairOf, own}

@@ -9,7 +9,7 @@ use native.Mathlib.Decide.{decLt}
 use native.Mathlib.Omega.{arith}
 use lib.ListN.{length, getD}
 use lib.Seq.{ext-getD}
-use Rattle.hall.specs.Ticks.{own, goalTick}
+use Rattle.hall.specs.Ticks.{goalTick}
 use Rattle.hall.specs.Plan.{tablesIn}
 use Rattle.hall.proofs.Ticks.{ticks-unique-all, total-same}
 use Rattle.ticks.specs.declared.Timed.{Timed}

@@ -1,13 +1,13 @@
 // Start ticks and cost by a distance table (rule 9.8) and an order (rules 5.1 to 5.5). A network is not asked
 // for: the table may hold any numbers, as long as it has its least length. An input that is not served leaves
-// the ticks as they came. A place in the order and a carrier's number are of two types, since both go into
-// one function here and neither may be used for the other (rule 3.9).
+// the ticks as they came. Places of the order and carrier numbers have a type each, since both go into one
+// function here and neither may be used for the other (rule 3.9).
 //
 // Work for k carriers: the one at place q is tested against the q before it, q (q + 1) pair tests at most
 // (see crate rule), so less than k³ / 3 in all. That is 87,360 for 64 carriers at most, and far fewer where
 // few stretches overlap.
 ghost use mathlib.Core.Path.{_≡_};
-ghost use Prim.Native.Nat.{ℕ, _+_, _*_, _≤_, _<_};
+ghost use Prim.Native.Nat.{_+_, _*_, _≤_, _<_};
 ghost use lib.ListN.{length, getD};
 ghost use denote.Ref.{now};
 ghost use Rattle.hall.specs.Limits.{carrierLimit, tableLength};

@@ -6,7 +6,7 @@ use Prim.Native.Nat.{_/_}
 use native.Mathlib.Omega.{arith}
 use borrow.Author.Needs.{needs}
 use lib.ListN.{length}
-use Rattle.rule.specs.Reach.{Reached, PermittedByHeld, Swept}
+use Rattle.rule.specs.Reach.{TickReached, PermittedByHeld, Swept}
 use Rattle.rule.proofs.Reach.{reached-here, reached-further, swept-smallest}
 use Rattle.rule.proofs.Work.{waiting, waiting-falls}
 use Rattle.rule.proofs.first_tick.Statement.{statement}
@@ -14,7 +14,7 @@ use Rattle.rule.proofs.first_tick.Tie as tie
 
 abbrev Inv-loop : tie.InvT-loop
 Inv-loop held from tick₀ next₀ tick next =
-    Reached from (PermittedByHeld held (length held / 7)) tick × Swept held tick next
+    TickReached from (PermittedByHeld held (length held / 7)) tick × Swept held tick next
 
 abbrev μ-loop : tie.MeasureT-loop
 μ-loop held from tick₀ next₀ tick next = waiting held tick

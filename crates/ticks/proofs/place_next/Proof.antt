@@ -2,11 +2,11 @@
 -- (`lent-smallest`), so the first tick by it is the smallest tick at place q. It is early (`next-early`), so
 -- it fits 32 bits. It is written at the carrier's number, which is below 64. There is no loop. Assumes
 -- nothing.
-use Prim.Native.Nat.{ℕ, _*_, _≤_, _<_}
+use Prim.Native.Nat.{ℕ, _*_, _≤_}
 use native.Mathlib.Omega.{arith}
-use lib.ListN.{length, getD, set}
+use lib.ListN.{getD, set}
 use lib.Seq.{length-take-le}
-use mathlib.Core.Path.{_≡_, sym, ap}
+use mathlib.Core.Path.{sym, ap}
 use Rattle.hall.specs.Ticks.{SmallestFrom, PermittedAt}
 use Rattle.hall.specs.Plan.{tablesIn}
 use Rattle.ticks.proofs.Order.{number-below}

@@ -1,7 +1,7 @@
 -- `hall::zero::zero_below` meets its contract. The invariant: the table so far is the one that came, with its
 -- first i places zero. The measure is what is left of the places. Assumes nothing.
 use mathlib.Core.Path.{_≡_, refl, sym}
-use Prim.Native.Nat.{ℕ, _+_, _-_, _≤_, _<_}
+use Prim.Native.Nat.{_+_, _-_, _≤_, _<_}
 use native.Mathlib.Omega.{arith}
 use borrow.Author.Needs.{needs}
 use lib.ListN.{length, set, length-set}
@@ -9,8 +9,6 @@ use Rattle.hall.specs.Left.{zeroed}
 use Rattle.hall.proofs.Left.{zeroed-none, zeroed-more}
 use Rattle.hall.proofs.zero.zero_below.Statement.{statement}
 use Rattle.hall.proofs.zero.zero_below.Tie as tie
-use Rattle.hall.proofs.zero.zero_below.Reads as reads
-use Rattle.hall.proofs.zero.zero_below.Lts as lts
 
 abbrev Inv-loop : tie.InvT-loop
 Inv-loop table₀ end i₀ table i = (i ≤ end) × (end ≤ length table₀) × (length table ≡ length table₀) × (table ≡ zeroed i table₀)

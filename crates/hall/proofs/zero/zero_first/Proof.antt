@@ -6,8 +6,6 @@ use native.Mathlib.Nat.{le-of-lt}
 use Rattle.hall.proofs.Left.{zeroed-short}
 use Rattle.hall.proofs.zero.zero_first.Statement.{statement}
 use Rattle.hall.proofs.zero.zero_first.Tie as tie
-use Rattle.hall.proofs.zero.zero_first.Reads as reads
-use Rattle.hall.proofs.zero.zero_first.Lts as lts
 
 zero-below-requires : tie.Need-zero-below-requires
 zero-below-requires c κs = search needs

@@ -1,0 +1,143 @@
+-- What the text of a job without the faults 2 to 7 says is without a fault, so that it is accepted. The
+-- sections are put one behind the other from the last to the first, each by the checks of its whole list.
+-- Assumes nothing but that the moves have two numbers each.
+--     lanes-paired      lanes without the fault 2 go by twos
+--     contents-sound        the contents of a job without faults are without a fault
+--     written-sound     its text is their written form
+--     small-nodes, small-lanes, small-moves    the numbers of such a job have a written form
+use mathlib.Core.Path.{_≡_, refl}
+use mathlib.Core.Logic.{inl, inr}
+use mathlib.Core.List.{List, [], _∷_, _++_}
+use Prim.Native.Nat.{ℕ, _+_, _*_, _/_, _%_, _≤_, _<_}
+use native.Mathlib.Decide.{ℕ-discrete}
+use native.Mathlib.Omega.{arith}
+use lib.ListN.{length, getD}
+use Rattle.hall.specs.Limits.{nodeLimit, laneLimit, carrierLimit}
+use Rattle.hall.specs.Floor.{networkOf, laneCount, lower, higher}
+use Rattle.hall.specs.Job.{Numbers, moveCount, startIn, goalIn}
+use Rattle.hall.specs.Job as job
+use Rattle.hall.specs.Stages.{None, ClearAt}
+use Rattle.hall.specs.Refusals.{LaneFault, no-node, no-carrier}
+use Rattle.hall.specs.Questions.{moveChecks, orderChecks, checksQuestion}
+use Rattle.hall.proofs.Sound.{Denied, denied-checks, nodes-limit, carriers-limit, order-length}
+use Rattle.form.specs.Lines.{Small}
+use Rattle.form.specs.Sections.{Form, Content, content, sameWord, countOf}
+use Rattle.form.specs.Words.{NODES, LANES, CARRIERS, ORDER}
+use Rattle.form.specs.Contents.{first, Sound, over, stands}
+use Rattle.form.specs.Texts.{WrittenForm}
+use Rattle.form.specs.JobText.{nodesSection, lanesSection, carriersSection, orderSection, jobText}
+use Rattle.form.specs.Jobs.{pairs, singles, contentsOf, WrittenJob}
+use Rattle.form.proofs.Checks.{lanes-steady, carriers-steady, order-steady}
+use Rattle.form.proofs.Rows.{ByTwos, small-by, pairs-back, pairs-count, pairs-rows, singles-back}
+use Rattle.form.proofs.Rows.{singles-count, singles-rows, whole-section}
+
+-- both numbers of each pair are small, so all are
+pairs-small : (l : List ℕ) → ByTwos l
+    → ((k : ℕ) → k < length l / 2 → (lower l k < 10000) × (higher l k < 10000)) → Small l
+pairs-small l e h = small-by l (λ i b. cases i b (ℕ-discrete (i % 2) 0))
+  where
+    cases : (i : ℕ) → i < length l → Dec (i % 2 ≡ 0) → getD l i 0 < 10000
+    cases i b (yes z) = let q : 2 * (i / 2) ≡ i = omega arith in rw q at (h (i / 2) (omega arith) .0)
+    cases i b (no z) = let q : 2 * (i / 2) + 1 ≡ i = omega arith in rw q at (h (i / 2) (omega arith) .1)
+
+-- ends that are nodes of so many are small
+node-small : (n a : ℕ) → n ≤ nodeLimit → ¬ (n ≤ a) → a < 10000
+node-small n a few h = omega arith
+
+-- ---- each section, before the others
+
+module _ (read cs : List Content) (left : Form) where
+  nodes-sound : (n : ℕ) → (1 ≤ n) × (n ≤ nodeLimit) → Sound (read ++ (content NODES n [] ∷ [])) left cs
+      → Sound read (nodesSection ∷ left) (content NODES n [] ∷ cs)
+  nodes-sound n fits rest =
+      let h = fits .1 in
+      stands read (nodesSection ∷ left) left nodesSection n [] cs (first nodesSection left)
+      (record { small = omega arith; fits = fits; counted = refl; passes = tt }) rest
+
+  lanes-sound : (l : List ℕ) → ByTwos l → Small l → laneCount l ≤ laneLimit
+      → ((k : ℕ) → k < laneCount l → ¬ LaneFault (networkOf (countOf NODES read) l) k)
+      → Sound (read ++ (content LANES (laneCount l) (pairs l) ∷ [])) left cs
+      → Sound read (lanesSection ∷ left) (content LANES (laneCount l) (pairs l) ∷ cs)
+  lanes-sound l e small few fine rest =
+      let n = pairs-count l in
+      stands read (lanesSection ∷ left) left lanesSection (laneCount l) (pairs l) cs (first lanesSection left)
+      (whole-section read lanesSection (laneCount l) (pairs l) lanes-steady l (pairs-back l e)
+      (pairs-rows l small) (omega arith) (omega arith, omega arith) n
+      (λ k b. (fine k (omega arith), tt))) rest
+
+  carriers-sound : (l : List ℕ) → ByTwos l → Small l → moveCount l ≤ carrierLimit
+      → ((i : ℕ) → i < moveCount l → ClearAt (moveChecks (networkOf (countOf NODES read) []) l) i)
+      → Sound (read ++ (content CARRIERS (moveCount l) (pairs l) ∷ [])) left cs
+      → Sound read (carriersSection ∷ left) (content CARRIERS (moveCount l) (pairs l) ∷ cs)
+  carriers-sound l e small few fine rest =
+      let n = pairs-count l in
+      stands read (carriersSection ∷ left) left carriersSection (moveCount l) (pairs l) cs (first carriersSection left)
+      (whole-section read carriersSection (moveCount l) (pairs l) carriers-steady l (pairs-back l e)
+      (pairs-rows l small) (omega arith) (omega arith, omega arith) n
+      (λ k b. fine k (omega arith))) rest
+
+  order-sound : (l : List ℕ) → Small l → length l ≡ countOf CARRIERS read → length l ≤ carrierLimit
+      → ((p : ℕ) → p < length l → ClearAt (orderChecks (countOf CARRIERS read) l) p)
+      → Sound (read ++ (content ORDER (length l) (singles l) ∷ [])) left cs
+      → Sound read (orderSection ∷ left) (content ORDER (length l) (singles l) ∷ cs)
+  order-sound l small same few fine rest =
+      let n = singles-count l in
+      stands read (orderSection ∷ left) left orderSection (length l) (singles l) cs (first orderSection left)
+      (whole-section read orderSection (length l) (singles l) order-steady l (singles-back l)
+      (singles-rows l small) (omega arith) (omega arith, omega arith) n
+      (λ p b. fine p (omega arith))) rest
+
+-- ---- the whole
+
+module _ (j : Numbers) (sound : None (checksQuestion j)) where
+  facts : Denied j
+  facts = denied-checks j sound
+
+  pub lanes-paired : ByTwos (j .network .lanes)
+  lanes-paired =
+      let even : ¬ (length (j .network .lanes) % 2 ≡ 1) = λ e. facts .network .lanes (inr e) in
+      omega arith
+
+  pub nodes-fit : (1 ≤ j .network .nodes) × (j .network .nodes ≤ nodeLimit)
+  nodes-fit =
+      let some : ¬ (j .network .nodes < 1) = λ e. facts .network .nodes (inl e) in
+      (omega arith, nodes-limit j sound)
+
+  pub lanes-few : laneCount (j .network .lanes) ≤ laneLimit
+  lanes-few =
+      let few : ¬ (laneLimit < length (j .network .lanes) / 2) = λ e. facts .network .lanes (inl e) in
+      omega arith
+
+  pub small-lanes : Small (j .network .lanes)
+  small-lanes = pairs-small (j .network .lanes) lanes-paired (λ k b. (
+    node-small (j .network .nodes) (lower (j .network .lanes) k) (nodes-fit .1)
+        (λ y. facts .network .lane k b (no-node (inl y))),
+    node-small (j .network .nodes) (higher (j .network .lanes) k) (nodes-fit .1)
+        (λ y. facts .network .lane k b (no-node (inr y))),
+  ))
+
+  pub small-moves : ByTwos (j .moves) → Small (j .moves)
+  small-moves paired = pairs-small (j .moves) paired (λ i b. (
+    node-small (j .network .nodes) (startIn (j .moves) i) (nodes-fit .1) (λ y. facts .off-floor i b (inl y)),
+    node-small (j .network .nodes) (goalIn (j .moves) i) (nodes-fit .1) (λ y. facts .off-floor i b (inr y)),
+  ))
+
+  small-order : Small (j .order)
+  small-order = small-by (j .order) (λ p b.
+      let few = carriers-limit j sound in
+      let x : ¬ (job.carriers j ≤ getD (j .order) p 0) = λ y. facts .bad-order p b (no-carrier y) in
+      omega arith)
+
+  pub contents-sound : ByTwos (j .moves) → Sound [] jobText (contentsOf j)
+  unfolding countOf sameWord NODES LANES CARRIERS
+  contents-sound paired =
+      nodes-sound [] _ _ (j .network .nodes) nodes-fit
+      (lanes-sound _ _ _ (j .network .lanes) lanes-paired small-lanes lanes-few (facts .network .lane)
+      (carriers-sound _ _ _ (j .moves) paired (small-moves paired) (carriers-limit j sound)
+      (λ i b. (facts .off-floor i b, (facts .same-ends i b, (facts .shared-end i b, tt))))
+      (order-sound _ _ [] (j .order) small-order (order-length j sound)
+      (omega (arith, order-length j sound, carriers-limit j sound))
+      (λ p b. (facts .bad-order p b, tt)) (over _ [] tt))))
+
+pub written-sound : (t : List ℕ) (j : Numbers) → WrittenJob t j → WrittenForm jobText t (contentsOf j)
+written-sound t j w = record { writes = w .writes; sound = contents-sound j (w .sound) (w .paired) }

@@ -1,0 +1,26 @@
+-- The sections of a job text (rules 7.1, 7.9 and 8.2).
+--     nodesSection, lanesSection, carriersSection, orderSection    a section each, with its limits and what
+--                  its entries are. The order has as many places as there are carriers
+--     jobText      the form of a job text: the sections in their order
+use mathlib.Core.List.{[], _∷_}
+use mathlib.Core.Bool.{false}
+use Rattle.hall.specs.Limits.{nodeLimit, laneLimit, carrierLimit}
+use Rattle.form.specs.Sections.{Section, Form, between, like, none, lane, move, place}
+use Rattle.form.specs.Words.{NODES, LANES, CARRIERS, ORDER}
+
+abbrev pub nodesSection : Section
+nodesSection = record { word = NODES; size = 0; optional = false; limits = between 1 nodeLimit; entry = none }
+
+abbrev pub lanesSection : Section
+lanesSection = record { word = LANES; size = 2; optional = false; limits = between 0 laneLimit; entry = lane }
+
+abbrev pub carriersSection : Section
+carriersSection =
+    record { word = CARRIERS; size = 2; optional = false; limits = between 0 carrierLimit; entry = move }
+
+abbrev pub orderSection : Section
+orderSection =
+    record { word = ORDER; size = 1; optional = false; limits = like CARRIERS carrierLimit; entry = place }
+
+abbrev pub jobText : Form
+jobText = nodesSection ∷ lanesSection ∷ carriersSection ∷ orderSection ∷ []

@@ -1,0 +1,15 @@
+-- The words of the sections, by their letters' bytes (rule 7.1).
+use mathlib.Core.List.{List, [], _∷_}
+use Prim.Native.Nat.{ℕ}
+
+unfoldable pub NODES : List ℕ
+NODES = 78 ∷ 79 ∷ 68 ∷ 69 ∷ 83 ∷ []
+
+unfoldable pub LANES : List ℕ
+LANES = 76 ∷ 65 ∷ 78 ∷ 69 ∷ 83 ∷ []
+
+unfoldable pub CARRIERS : List ℕ
+CARRIERS = 67 ∷ 65 ∷ 82 ∷ 82 ∷ 73 ∷ 69 ∷ 82 ∷ 83 ∷ []
+
+unfoldable pub ORDER : List ℕ
+ORDER = 79 ∷ 82 ∷ 68 ∷ 69 ∷ 82 ∷ []

@@ -1,0 +1,3 @@
+-- The digits of a number, and what putting bytes into a lent list leaves and answers.
+pub mod Digits
+pub mod Putting

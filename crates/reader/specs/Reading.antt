@@ -1,0 +1,71 @@
+-- What reading a job text answers, and what it leaves in the lent tables (rules 7.6 to 7.13, 8.9, 8.21, 8.29
+-- and 9.1 to 9.6). When a text is accepted as which job, and refused with which number at which line, is
+-- said in crate form, of written lines alone. The moves are the starts and goals of the carriers by turns.
+--     saidRead       what an answer of reading says: the counts of an accepted text, or a refusal's listed
+--                    number with its line
+--     TooShort       9: a lent table has fewer places than its least length, by the tables' lengths;
+--                    `AnyShort` by the tables
+--     countsOf       the counts of a job: nodes, lanes and carriers (rule 7.13)
+--     AcceptedAs     no table is too short, the text is the written form of a job without faults, these are
+--                    its counts, and the tables are filled with its numbers (rules 7.13 and 9.5)
+--     Reason         why a reading is refused: 9 at line 0 where a lent table is too short, before anything
+--                    is read; otherwise with the number and at the line with which the form refuses the text
+--                    (rules 8.21 and 8.29). `Short` says of the tables that are lent that one is too short
+--     RefusedWith    a reason, and what is left in the tables: 9 leaves them as they came, any other number
+--                    zeroes their least lengths (rules 9.4 and 9.6)
+--     ReadInto       the promise of reading, by what is said; the tables are as lent and, marked ′, as left
+use mathlib.Core.Path.{_≡_}
+use mathlib.Core.Logic.{_⊎_}
+use mathlib.Core.List.{List}
+use Prim.Native.Nat.{ℕ, _<_}
+use lib.ListN.{length}
+use Rattle.hall.specs.declared.Fault.the-variants.{ShortTable}
+use Rattle.hall.specs.declared.Job.{Job}
+use Rattle.hall.specs.Limits.{carrierLimit, laneNumbers, moveNumbers}
+use Rattle.hall.specs.Floor.{laneCount}
+use Rattle.hall.specs.Job.{Numbers, carriers}
+use Rattle.hall.specs.Numbers.{numberOf}
+use Rattle.hall.specs.Said.{Said, accepted, refused, saidRefusal}
+use Rattle.hall.specs.Left.{filled, left}
+use Rattle.form.specs.Texts.{Refused}
+use Rattle.form.specs.JobText.{jobText}
+use Rattle.form.specs.Jobs.{WrittenJob}
+use Rattle.reader.specs.declared.Read.{Read}
+
+abbrev pub saidRead : Read → Said Job
+saidRead (Read.Job counts) = accepted counts
+saidRead (Read.Refused r) = saidRefusal r
+
+abbrev pub TooShort : (lanes moves order : ℕ) → Type 0
+TooShort lanes moves order = (lanes < laneNumbers) ⊎ ((moves < moveNumbers) ⊎ (order < carrierLimit))
+
+abbrev pub countsOf : Numbers → Job
+countsOf j =
+    record { nodes = j .network .nodes; lanes = laneCount (j .network .lanes); carriers = carriers j }
+
+abbrev pub AnyShort : (lanes moves order : List ℕ) → Type 0
+AnyShort lanes moves order = TooShort (length lanes) (length moves) (length order)
+
+pub data Reason (Short : Type 0) (text : List ℕ) (number line : ℕ) : Type 0 where
+  short : Short → number ≡ numberOf ShortTable → line ≡ 0 → Reason Short text number line
+  faulty : ¬ Short → Refused jobText text number line → Reason Short text number line
+
+module _ (text lanes moves order : List ℕ) where
+  pub record AcceptedAs (lanes′ moves′ order′ : List ℕ) (counts : Job) : Type 0 where
+    pub long : ¬ AnyShort lanes moves order
+    pub job : Numbers
+    pub writes : WrittenJob text job
+    pub is-counts : counts ≡ countsOf job
+    pub lanes-left : lanes′ ≡ filled (job .network .lanes) laneNumbers lanes
+    pub moves-left : moves′ ≡ filled (job .moves) moveNumbers moves
+    pub order-left : order′ ≡ filled (job .order) carrierLimit order
+
+  pub record RefusedWith (lanes′ moves′ order′ : List ℕ) (number line : ℕ) : Type 0 where
+    pub reason : Reason (AnyShort lanes moves order) text number line
+    pub lanes-left : lanes′ ≡ left number laneNumbers lanes
+    pub moves-left : moves′ ≡ left number moveNumbers moves
+    pub order-left : order′ ≡ left number carrierLimit order
+
+  abbrev pub ReadInto : (lanes′ moves′ order′ : List ℕ) → Said Job → Type 0
+  ReadInto lanes′ moves′ order′ (accepted counts) = AcceptedAs lanes′ moves′ order′ counts
+  ReadInto lanes′ moves′ order′ (refused number line) = RefusedWith lanes′ moves′ order′ number line
