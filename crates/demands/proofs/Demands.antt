@@ -8,8 +8,8 @@
 -- choice too, stands in path's Unique.antt. Assumes nothing.
 --     one-reading, one-planning, one-house, one-judgement    demand 1: one answer and one content of each
 --                                                            table
---     accepted-exactly, refused-exactly         demand 1: a text is accepted, and refused with a number at a
---                                               line, exactly when the list says
+--     accepted-exactly, refused-exactly, refused-by-text    demand 1: a text is accepted, and refused with a
+--                                               number at a line, exactly when the list says
 --     nine-exactly                              demand 1: 9 at line 0 exactly if a table is short
 --     nine-untouched, refused-zeroed, accepted-tables    demand 1: what the tables of reading hold then
 --     accepted-text-written, read-faultless     what was read is the job that the text writes; planning it
@@ -38,19 +38,18 @@ use mathlib.Core.List.{List, [], _∷_}
 use Prim.Native.Nat.{ℕ, _+_, _≤_, _<_}
 use native.Mathlib.Omega.{arith}
 use lib.ListN.{length}
+use borrow.Author.Tests.{ne-eqb}
 use denote.Ref.{RefT, ptr, now}
-use Rattle.hall.specs.declared.Fault.{Fault}
 use Rattle.hall.specs.declared.Job.{Job}
 use Rattle.hall.specs.declared.Checked.{Checked}
 use Rattle.hall.specs.declared.Checked.the-variants.{Sound}
-use Rattle.hall.specs.Limits.{nodeLimit, tableLength}
-use Rattle.hall.specs.Numbers.{numberOf}
+use Rattle.hall.specs.Limits.{nodeLimit, carrierLimit, laneNumbers, tableLength}
 use Rattle.hall.specs.Floor.{NoWalk, Network, floor}
 use Rattle.hall.specs.Job.{Numbers, carriers, start, goal}
 use Rattle.hall.specs.Stages.{Question, FirstOf, here, later, FirstAt, FirstStage, First, None}
 use Rattle.hall.specs.Said.{Said, accepted, refused, Fits, saidChecked}
 use Rattle.hall.specs.Questions.{shortTable, eachWalk, checksQuestion, houseOfMove, listOfMove, houseOfJob, listOfJob}
-use Rattle.hall.specs.Left.{zeroed, left}
+use Rattle.hall.specs.Left.{zeroed, filled, left}
 use Rattle.hall.specs.Ticks.{goalTick}
 use Rattle.hall.specs.Path.{ShortestPath}
 use Rattle.hall.specs.Plan.{tablesIn}
@@ -69,11 +68,13 @@ use Rattle.hall.proofs.Summit.{PlannedOnce, RefusedOnce, planned-once, every-jo
 use Rattle.records.specs.declared.Record.{Record}
 use Rattle.records.proofs.Laws.{moves-count}
 use Rattle.tables.specs.Filling.{TableLeft}
-use Rattle.text.specs.declared.reader.Read.{Read}
-use Rattle.text.specs.Left.{saidRead, refuse, countsOf}
-use Rattle.text.proofs.Left.{said-read-one}
-use Rattle.written.specs.Accepted.{WrittenForm}
-use Rattle.written.specs.Refused as texts
+use Rattle.form.specs.Texts.{Refused as RefusedText}
+use Rattle.form.specs.JobText.{jobText}
+use Rattle.form.specs.Jobs.{WrittenJob}
+use Rattle.form.proofs.JobTexts.{refused-with}
+use Rattle.reader.specs.declared.Read.{Read}
+use Rattle.reader.specs.Reading.{saidRead, countsOf, Reason, faulty}
+use Rattle.reader.proofs.Exactly.{by-form}
 use Rattle.path.specs.declared.Housed.{Housed}
 use Rattle.path.specs.Paths.{Unfit, saidHoused, House, HouseAnswer, ListAnswer, Passes, ChoiceAnswer}
 use Rattle.path.proofs.Exactly as paths
@@ -81,10 +82,9 @@ use Rattle.planner.specs.declared.Planned.{Planned}
 use Rattle.planner.specs.declared.Planned.the-variants.{Cost, Refused}
 use Rattle.planner.specs.Planning.{saidPlanned}
 use Rattle.jobs.specs.Job.{recordJob}
-use Rattle.jobs.specs.Reading.{RecordsOutcome, ReadLeft, jobRead}
+use Rattle.jobs.specs.Reading.{LentShort, filledRecords, GivenJob, ReadLeft, jobRead}
 use Rattle.jobs.specs.Planning.{recordQuestion, tickOf, distanceOf, RecordsLeft, GivenRecords, RecordPlanning}
 use Rattle.jobs.specs.Asking.{HouseOfRecords, ListOfRecords}
-use Rattle.jobs.specs.Demands.{LentShort, Roomy, ReadRefused, nine, by-text, TablesHold, TablesZeroed}
 use Rattle.jobs.specs.Demands.{Demand2, NoEarlierFault}
 use Rattle.jobs.proofs.ReadJob.{read-is-written}
 use Rattle.jobs.proofs.ReadExactly as reads
@@ -102,64 +102,63 @@ module _ {text text′ lanes lanes′ : List ℕ} {records records′ : List Rec
     (a : ReadLeft text text′ lanes lanes′ records records′ order order′ r) where
   -- a job's written form is accepted, with its counts and in tables that hold it, and nothing else is
   pub accepted-exactly : (j : Numbers) →
-      (Roomy lanes records order × WrittenForm text j)
+      ((¬ LentShort lanes records order) × WrittenJob text j)
       ↔ ((saidRead r ≡ accepted (countsOf j)) × (jobRead (countsOf j) lanes′ records′ order′ ≡ j))
-  accepted-exactly j = (there, back)
-    where
-      there : Roomy lanes records order × WrittenForm text j →
-          (saidRead r ≡ accepted (countsOf j)) × (jobRead (countsOf j) lanes′ records′ order′ ≡ j)
-      there h = let x = reads.written-read a (h .0) j (h .1) in (x .0, x .1)
-
-      back : (saidRead r ≡ accepted (countsOf j)) × (jobRead (countsOf j) lanes′ records′ order′ ≡ j) →
-          Roomy lanes records order × WrittenForm text j
-      back h =
-          let e = said-read-one r (Read.Job (countsOf j)) (h .0) in
-          let b = subst (ReadLeft text text′ lanes lanes′ records records′ order order′) e a in (
-            reads.read-back (countsOf j) b,
-            subst (WrittenForm text) (h .1)
-                (read-is-written text lanes lanes′ records records′ order order′ (countsOf j) b),
-          )
+  accepted-exactly =
+      reads.accepted-exactly text lanes records order lanes′ records′ order′ (saidRead r) (a .given)
 
   -- refused with the number n at a line, exactly when the list says
-  pub refused-exactly : (n line : ℕ) → (saidRead r ≡ refused n line) ↔ ReadRefused text lanes records order n line
-  refused-exactly n line = (there r refl a, back)
-    where
-      there : (x : Read) → x ≡ r → ReadLeft text text′ lanes lanes′ records records′ order order′ x →
-          saidRead r ≡ refused n line → ReadRefused text lanes records order n line
-      there = reads.said-refused n line
+  pub refused-exactly : (n line : ℕ) →
+      (saidRead r ≡ refused n line) ↔ Reason (LentShort lanes records order) text n line
+  refused-exactly =
+      reads.refused-exactly text lanes records order lanes′ records′ order′ (saidRead r) (a .given)
 
-      back : ReadRefused text lanes records order n line → saidRead r ≡ refused n line
-      back (nine s e z) = ap (λ (x : RecordsOutcome). x .said) (reads.left-short a s) ∙ λ i. refused (sym e i) (sym z i)
-      back (by-text h f e x) = reads.refused-read a h f line x .0 ∙ λ i. refused (sym e i) line
+  -- with long enough tables that is what the form says of the text
+  pub refused-by-text : ¬ LentShort lanes records order → (n line : ℕ) →
+      (saidRead r ≡ refused n line) ↔ RefusedText jobText text n line
+  refused-by-text long n line =
+      let iff = refused-exactly n line in
+      (λ e. by-form text n line long (iff .0 e), λ x. iff .1 (faulty long x))
 
   pub nine-exactly : (saidRead r ≡ refused 9 0) ↔ LentShort lanes records order
-  nine-exactly = (λ e. only-short (refused-exactly 9 0 .0 e), λ s. refused-exactly 9 0 .1 (nine s refl refl))
-    where
-      only-short : ReadRefused text lanes records order 9 0 → LentShort lanes records order
-      only-short (nine s e z) = s
-      only-short (by-text h f e x) = absurd (let z : ⊥ = omega (arith, reads.lines-from-1 x) in z)
+  nine-exactly = reads.nine-exactly text lanes records order lanes′ records′ order′ (saidRead r) (a .given)
 
   -- what the tables hold then
 
   pub nine-untouched : LentShort lanes records order → (lanes′ ≡ lanes) × (records′ ≡ records) × (order′ ≡ order)
   nine-untouched s =
-      let e = reads.left-short a s in
-      (ap (λ (x : RecordsOutcome). x .lanes) e, ap (λ (x : RecordsOutcome). x .records) e, ap (λ (x : RecordsOutcome). x .order) e)
+      let x = subst (GivenJob text lanes records order lanes′ records′ order′) (nine-exactly .1 s) (a .given) in
+      (x .lanes-left, x .records-left, x .order-left)
 
-  pub refused-zeroed : Roomy lanes records order → (f : Fault) (line : ℕ) → texts.Refused text f line →
-      TablesZeroed lanes lanes′ records records′ order order′
-  refused-zeroed h f line x = reads.refused-read a h f line x .1
+  pub refused-zeroed : ¬ LentShort lanes records order → (n line : ℕ) → RefusedText jobText text n line →
+      (lanes′ ≡ zeroed laneNumbers lanes)
+      × (records′ ≡ filledRecords [] records)
+      × (order′ ≡ zeroed carrierLimit order)
+  refused-zeroed long n line faulty-at =
+      let e = refused-by-text long n line .1 faulty-at in
+      let x = subst (GivenJob text lanes records order lanes′ records′ order′) e (a .given) in
+      let low = refused-with text n line faulty-at .1 in
+      let other : NotNine n = λ e. let y : ⊥ = omega arith in y in (
+        x .lanes-left ∙ left-by-other n laneNumbers lanes other,
+        rw (ne-eqb n 9 other) at (x .records-left),
+        x .order-left ∙ left-by-other n carrierLimit order other,
+      )
 
-  pub accepted-tables : Roomy lanes records order → (j : Numbers) → WrittenForm text j →
-      TablesHold (j .network .lanes) (j .moves) (j .order) lanes lanes′ records records′ order order′
-  accepted-tables h j w = reads.written-read a h j w .2
+  pub accepted-tables : ¬ LentShort lanes records order → (j : Numbers) → WrittenJob text j →
+      (lanes′ ≡ filled (j .network .lanes) laneNumbers lanes)
+      × (records′ ≡ filledRecords (j .moves) records)
+      × (order′ ≡ filled (j .order) carrierLimit order)
+  accepted-tables long j w =
+      let all = reads.accepted-holds text lanes records order lanes′ records′ order′ long j w in
+      let holds = all (saidRead r) (a .given) in
+      (holds .1, holds .2, holds .3)
 
 -- an accepted text is the written form of the job that is left in the tables, which has no fault that comes
 -- before 8
 module _ (text text′ lanes lanes′ : List ℕ) (records records′ : List Record) (order order′ : List ℕ) (counts : Job)
     (promise : ReadLeft text text′ lanes lanes′ records records′ order order′ (Read.Job counts)) where
-  pub accepted-text-written : WrittenForm text (jobRead counts lanes′ records′ order′)
-  accepted-text-written = read-is-written text lanes lanes′ records records′ order order′ counts promise
+  pub accepted-text-written : WrittenJob text (jobRead counts lanes′ records′ order′)
+  accepted-text-written = read-is-written text lanes lanes′ records records′ order order′ counts (promise .given)
 
   pub read-faultless : (table : List ℕ) → tableLength ≤ length table →
       NoEarlierFault (jobRead counts lanes′ records′ order′) table

@@ -1,8 +1,8 @@
 -- What the program prints for a text is what the rules owe, from the promise of `report::answer` as it stands
--- in the source. A text is read as the job that it writes, or refused exactly at its first faulty line
--- (written's `accepted-exactly`, `refused-exactly`); a job without the faults 2 to 7 is refused for 8, or has
--- a plan, which is safe and within the limits (hall's `plan-safe`, `plan-within`). For every text one of the
--- two is so, and for one number and line, so the rules owe one text, and it is printed. Assumes nothing.
+-- in the source. A text writes one job at most, or is refused at its first faulty line, never both (form's
+-- JobTexts); a job without the faults 2 to 7 is refused for 8, or has a plan, which is safe and within the
+-- limits (hall's `plan-safe`, `plan-within`). For every text one of the two is so, and for one number and
+-- line, so the rules owe one text, and it is printed. Assumes nothing.
 --     answer-owed                  demands 1 to 3: what `answer` prints is owed
 --     one-owed                     the rules owe one text
 --     refused-printed, planned-printed    and it is printed: the refusal exactly with the number and the line
@@ -15,8 +15,6 @@ use mathlib.Core.List.{List}
 use Prim.Native.Nat.{ℕ, _≤_}
 use native.Mathlib.Omega.{arith}
 use lib.ListN.{length}
-use Rattle.hall.specs.declared.Fault.{Fault}
-use Rattle.hall.specs.Numbers.{numberOf}
 use Rattle.hall.specs.Job.{Numbers, carriers}
 use Rattle.hall.specs.Stages.{First, None}
 use Rattle.hall.specs.Said.{Said, accepted, refused, Fits}
@@ -31,20 +29,19 @@ use Rattle.hall.proofs.Demand.{plan-safe}
 use Rattle.hall.proofs.PlanLaws.{plan-within}
 use Rattle.hall.proofs.Exist.{plan-exists}
 use Rattle.hall.proofs.Complete.{job-decided}
-use Rattle.written.specs.Accepted.{WrittenForm}
-use Rattle.written.specs.Refused as texts
-use Rattle.written.proofs.WrittenForm.{accepted-written, written-accepted, job-unique}
-use Rattle.written.proofs.RefusedForm as forms
+use Rattle.form.specs.Jobs.{WrittenJob, ReadsJob, lineOf}
+use Rattle.form.proofs.JobTexts as forms
+use Rattle.form.proofs.JobTexts.{job-unique}
 use Rattle.report.specs.Printed.{planText, refusedText}
 use Rattle.report.specs.Printing.{Prints}
-use Rattle.report.specs.Answer.{lineOf, JobText, AnswerText, Answering}
+use Rattle.report.specs.Answer.{JobAnswer, AnswerText, Answering}
 use Rattle.report.proofs.OneAnswer.{answer-text-unique}
 use Rattle.demands.specs.Owed.{RefusedFor, at-line, no-walk, PlannedAs, Owed, refusal, schedule}
 
 -- ---- a plan is all that is owed of it
 
 pub planned-as : {text : List ℕ} {j : Numbers} {t : Tables} {tick : ℕ → ℕ} {cost : ℕ} →
-    WrittenForm text j → None (jobQuestion j) → Plan j t tick cost → PlannedAs text j t tick cost
+    WrittenJob text j → None (jobQuestion j) → Plan j t tick cost → PlannedAs text j t tick cost
 planned-as {text} {j} {t} {tick} {cost} w none plan =
     let sound = checks-of-none j none in
     record {
@@ -59,12 +56,10 @@ planned-as {text} {j} {t} {tick} {cost} w none plan =
 -- ---- what the program prints
 
 text-owed : {text printed : List ℕ} → AnswerText text printed → Owed text printed
-text-owed {text} (AnswerText.refused {fault = f} {line = l} reads e) =
-    refusal (at-line f refl (forms.refused-exactly f l text .0 reads)) e
-text-owed {text} (AnswerText.accepted {j = j} reads (JobText.unreached {i = i} first e)) =
-    refusal (no-walk j i (accepted-written text j reads) first refl refl) e
-text-owed {text} (AnswerText.accepted {j = j} reads (JobText.planned none plan e)) =
-    schedule (planned-as (accepted-written text j reads) none plan) e
+text-owed (AnswerText.refused at e) = refusal (at-line at) e
+text-owed (AnswerText.accepted {j = j} w (JobAnswer.unreached {i = i} first e)) =
+    refusal (no-walk j i w first refl refl) e
+text-owed (AnswerText.accepted w (JobAnswer.planned none plan e)) = schedule (planned-as w none plan) e
 
 -- the answer to a text stands in front of the lent bytes, and it is what is owed
 pub answer-owed : {text out out′ : List ℕ} {r : ℕ} → 2048 ≤ length out → Answering (AnswerText text) out out′ r →
@@ -75,13 +70,10 @@ answer-owed long (Answering.nothing short u) = absurd (let x : ⊥ = omega arith
 -- ---- the rules owe one text
 
 owed-text : {text printed : List ℕ} → Owed text printed → AnswerText text printed
-owed-text {text} (refusal {line = line} (at-line f e x) p) =
-    AnswerText.refused (forms.refused-exactly f line text .1 x) (p ∙ ap (λ (n : ℕ). refusedText n line) e)
-owed-text {text} (refusal (no-walk j i w first e l) p) =
-    AnswerText.accepted (written-accepted text j w)
-    (JobText.unreached first (p ∙ λ k. refusedText (e k) (l k)))
-owed-text {text} (schedule {j = j} a p) =
-    AnswerText.accepted (written-accepted text j (a .writes)) (JobText.planned (a .no-fault) (a .plan) p)
+owed-text (refusal (at-line at) p) = AnswerText.refused at p
+owed-text (refusal (no-walk j i w first e l) p) =
+    AnswerText.accepted w (JobAnswer.unreached first (p ∙ λ k. refusedText (e k) (l k)))
+owed-text (schedule a p) = AnswerText.accepted (a .writes) (JobAnswer.planned (a .no-fault) (a .plan) p)
 
 pub one-owed : {text a b : List ℕ} → Owed text a → Owed text b → a ≡ b
 one-owed x y = answer-text-unique (owed-text x) (owed-text y)
@@ -99,17 +91,15 @@ module _ {text printed : List ℕ} (owed : Owed text printed) where
 
 pub never-refused-and-planned : {text : List ℕ} {n line : ℕ} {j : Numbers} {t : Tables} {tick : ℕ → ℕ} {cost : ℕ} →
     RefusedFor text n line → ¬ PlannedAs text j t tick cost
-never-refused-and-planned {text} {j = j} (at-line f e x) a = forms.not-both text j f _ (a .writes) x
+never-refused-and-planned {text} {j = j} (at-line x) a = forms.never-both text j _ _ (a .writes) x
 never-refused-and-planned {text} {j = j} (no-walk k i w first e l) a =
     none-excludes first (subst (λ (x : Numbers). None (jobQuestion x)) (job-unique text j k (a .writes) w) (a .no-fault))
 
 pub one-refusal : {text : List ℕ} {n m line row : ℕ} → RefusedFor text n line → RefusedFor text m row →
     (n ≡ m) × (line ≡ row)
-one-refusal {text} (at-line f e x) (at-line g d y) =
-    let same = forms.refusal-unique text f g _ _ x y in
-    (e ∙ ap numberOf (same .0) ∙ sym d, same .1)
-one-refusal {text} (at-line f e x) (no-walk k i w first d l) = absurd (forms.not-both text k f _ w x)
-one-refusal {text} (no-walk k i w first d l) (at-line f e x) = absurd (forms.not-both text k f _ w x)
+one-refusal {text} (at-line x) (at-line y) = forms.one-refusal text _ _ _ _ x y
+one-refusal {text} (at-line x) (no-walk k i w first d l) = absurd (forms.never-both text k _ _ w x)
+one-refusal {text} (no-walk k i w first d l) (at-line x) = absurd (forms.never-both text k _ _ w x)
 one-refusal {text} (no-walk j i w first e l) (no-walk k q v second d m) =
     let same = job-unique text k j v w in
     let place = first-unique first (subst (λ (x : Numbers). First (jobQuestion x) 8 q) same second) .1 in (
@@ -130,9 +120,9 @@ pub record RefusedSomewhere (text : List ℕ) : Type 0 where
   pub owed : RefusedFor text number line
 
 pub one-or-the-other : (text : List ℕ) → Planned text ⊎ RefusedSomewhere text
-one-or-the-other text = by-form (forms.one-or-other text)
+one-or-the-other text = by-form (forms.one-answer text .0) (forms.one-answer text .1)
   where
-    by-job : (j : Numbers) → WrittenForm text j → (s : Said Unit) → Fits (jobQuestion j) s →
+    by-job : (j : Numbers) → WrittenJob text j → (s : Said Unit) → Fits (jobQuestion j) s →
         Planned text ⊎ RefusedSomewhere text
     by-job j w (accepted u) none =
         let p = plan-exists j none in
@@ -151,7 +141,6 @@ one-or-the-other text = by-form (forms.one-or-other text)
           owed = no-walk j i w (subst (λ (m : ℕ). First (jobQuestion j) m i) eight first) refl refl;
         })
 
-    by-form : ((j : Numbers) × WrittenForm text j) ⊎ ((f : Fault) × (l : ℕ) × texts.Refused text f l) →
-        Planned text ⊎ RefusedSomewhere text
-    by-form (inl h) = by-job (h .0) (h .1) (job-decided (h .0) .answer) (job-decided (h .0) .fits)
-    by-form (inr h) = inr (record { number = numberOf (h .0); line = h .1; owed = at-line (h .0) refl (h .2) })
+    by-form : (s : Said Numbers) → ReadsJob text s → Planned text ⊎ RefusedSomewhere text
+    by-form (accepted j) w = by-job j w (job-decided j .answer) (job-decided j .fits)
+    by-form (refused n line) x = inr (record { number = n; line = line; owed = at-line x })

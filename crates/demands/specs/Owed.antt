@@ -12,8 +12,6 @@
 use mathlib.Core.Path.{_≡_}
 use mathlib.Core.List.{List}
 use Prim.Native.Nat.{ℕ, _<_}
-use Rattle.hall.specs.declared.Fault.{Fault}
-use Rattle.hall.specs.Numbers.{numberOf}
 use Rattle.hall.specs.Floor.{floor}
 use Rattle.hall.specs.Job.{Numbers, carriers, start, goal}
 use Rattle.hall.specs.Stages.{First, None}
@@ -22,18 +20,18 @@ use Rattle.hall.specs.Ticks.{Tables, own}
 use Rattle.hall.specs.Path.{ShortestPath}
 use Rattle.hall.specs.Plan.{Plan}
 use Rattle.hall.specs.Safety.{Demand3, Within}
-use Rattle.written.specs.Accepted.{WrittenForm}
-use Rattle.written.specs.Refused as texts
+use Rattle.form.specs.Texts.{Refused}
+use Rattle.form.specs.JobText.{jobText}
+use Rattle.form.specs.Jobs.{WrittenJob, lineOf}
 use Rattle.report.specs.Printed.{planText, refusedText}
-use Rattle.report.specs.Answer.{lineOf}
 
 pub data RefusedFor (text : List ℕ) (n line : ℕ) : Type 0 where
-  at-line : (f : Fault) → n ≡ numberOf f → texts.Refused text f line → RefusedFor text n line
-  no-walk : (j : Numbers) (i : ℕ) → WrittenForm text j → First (jobQuestion j) 8 i → n ≡ 8 → line ≡ lineOf j i
+  at-line : Refused jobText text n line → RefusedFor text n line
+  no-walk : (j : Numbers) (i : ℕ) → WrittenJob text j → First (jobQuestion j) 8 i → n ≡ 8 → line ≡ lineOf j i
       → RefusedFor text n line
 
 pub record PlannedAs (text : List ℕ) (j : Numbers) (t : Tables) (tick : ℕ → ℕ) (cost : ℕ) : Type 0 where
-  pub writes : WrittenForm text j
+  pub writes : WrittenJob text j
   pub no-fault : None (jobQuestion j)
   pub plan : Plan j t tick cost
   pub within : Within (carriers j) t tick cost

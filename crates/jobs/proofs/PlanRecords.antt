@@ -14,7 +14,6 @@ use lib.ListN.{length, getD, replicate, length-replicate, List·getD-eq-default}
 use Rattle.hall.specs.Limits.{carrierLimit, tableLength}
 use Rattle.hall.specs.Floor.{Network}
 use Rattle.hall.specs.Job.{Numbers, jobOf, moveCount}
-use Rattle.hall.specs.Said.{accepted, refused}
 use Rattle.hall.specs.Plan.{Plan, tablesIn}
 use Rattle.hall.proofs.Places.{none-as, first-as}
 use Rattle.hall.proofs.Sound.{carriers-limit}

@@ -4,33 +4,32 @@
 -- 128 numbers is long enough; then no record is written. An accepted text has a whole number of moves, 64 at
 -- most. Assumes nothing.
 --     placed-filled    records made of moves with zeros behind
---     records-read     the promise of `read_job`, from that of `read_numbers` and from the records that are
---                      written
-use mathlib.Core.Path.{_≡_, refl, sym, _∙_, ap}
-use mathlib.Core.Bool.{Bool, true, false}
+--     all-placed       how many records are written where no table is too short
+--     records-read     the promise of `read_job`, from what is read beside the records and from the records
+--                      that are written
+use mathlib.Core.Path.{_≡_, refl, sym, _∙_, ap, subst}
+use mathlib.Core.Logic.{inl, inr}
 use mathlib.Core.List.{List, [], _∷_, _++_, append-nil}
-use Prim.Native.Nat.{ℕ, zero, suc, _+_, _*_, _-_, _≤_, _<_}
+use Prim.Native.Nat.{ℕ, zero, suc, _+_, _*_, _-_, _≤_}
 use native.Mathlib.Nat.{not-suc-le-zero}
 use native.Mathlib.Omega.{arith}
-use borrow.Author.Tests.{le-ltb, lt-ltb, ltb-false}
-use lib.Dec.{ltb}
+use borrow.Author.Tests.{ne-eqb}
 use lib.ListN.{length, drop, replicate, length-replicate, drop-of-length-le}
-use Rattle.hall.specs.declared.Fault.the-variants.{ShortTable}
 use Rattle.hall.specs.declared.Job.{Job}
 use Rattle.hall.specs.Job.{carriers}
-use Rattle.hall.specs.Said.{Said}
+use Rattle.hall.specs.Said.{Said, accepted, refused}
+use Rattle.hall.specs.Left.{filled}
+use Rattle.hall.proofs.Left.{NotNine, left-by-other, filled-none}
+use Rattle.hall.proofs.Sound.{carriers-limit}
 use Rattle.records.specs.declared.Record.{Record}
 use Rattle.records.specs.Table.{blank, fresh, placed}
 use Rattle.records.proofs.Lists.{two-more}
-use Rattle.text.specs.declared.reader.Read.{Read}
-use Rattle.text.specs.Bytes.{pick, either}
-use Rattle.text.specs.Reading.{Reading, job, refusal, reading}
-use Rattle.text.specs.Left as numbers
-use Rattle.text.specs.Left.{saidRead, filled}
-use Rattle.text.proofs.Left.{filled-none}
-use Rattle.written.proofs.AcceptedTexts.{accepted-text}
-use Rattle.jobs.specs.Reading.{recordsOutcome, recordsShort, recordsOf, filledRecords, leftRecords}
-use Rattle.jobs.specs.Reading.{recordsRead, ReadLeft, placedCount}
+use Rattle.form.proofs.JobTexts.{refused-with}
+use Rattle.reader.specs.declared.Read.{Read}
+use Rattle.reader.specs.Reading.{saidRead, AnyShort, Reason, short, faulty, AcceptedAs, RefusedWith}
+use Rattle.jobs.specs.Reading.{RecordsShort, LentShort, recordsOf, filledRecords, leftRecords}
+use Rattle.jobs.specs.Reading.{JobAccepted, JobRefused, GivenJob, ReadLeft}
+use Rattle.jobs.specs.Loading.{Beside, few, enough, Placing}
 
 -- ---- records made of moves
 
@@ -63,7 +62,7 @@ moves-filled ms = rw (drop-of-length-le {A = ℕ} (replicate 128 0) {i = 128} (o
 
 records-filled : (ms : List ℕ) (k : ℕ) (rs : List Record) → length ms ≡ 2 * k → k ≤ 64 → 64 ≤ length rs → placed 64 rs (filled ms 128 (replicate 128 0)) ≡ filledRecords ms rs
 unfolding filledRecords
-records-filled ms k rs two few h =
+records-filled ms k rs two limit h =
     let m = records-of-moves ms k two in
     rw (moves-filled ms) (placed-filled ms 64 rs (128 - length ms) (64 - length (recordsOf ms)) (omega arith) (omega arith) (omega arith) h)
 
@@ -72,92 +71,93 @@ records-filled ms k rs two few h =
 abbrev zeros : List ℕ
 zeros = replicate 128 0
 
-short-same : (lanes records order : ℕ) → numbers.short lanes records (length zeros) order ≡ recordsShort lanes records order
-unfolding numbers.short recordsShort
-short-same lanes records order = refl
-
-enough-records : (lanes records order : ℕ) → recordsShort lanes records order ≡ false → 64 ≤ records
-unfolding recordsShort
-enough-records lanes records order e = cases (ltb lanes 8192) (ltb records 64) refl (ltb order 64) e
+pub all-placed : {lanes records order : ℕ} → 8192 ≤ lanes → 64 ≤ records → 64 ≤ order
+    → Placing lanes records order 64
+all-placed {lanes} {records} {order} a b c = record { none = λ s. absurd (never s); all = λ n. refl }
   where
-    never : {B : Type 0} → true ≡ false → B
-    never e = absurd (let z : _≡_ {A = ℕ} 0 1 = cc in omega arith)
+    never : ¬ RecordsShort lanes records order
+    never (inl h) = omega arith
+    never (inr (inl h)) = omega arith
+    never (inr (inr h)) = omega arith
 
-    cases : (a b : Bool) → ltb records 64 ≡ b → (c : Bool) → either a (either b c) ≡ false → 64 ≤ records
-    cases true b y c e = never e
-    cases false true y c e = never e
-    cases false false y c e = ltb-false records 64 y
+module _ (lanes : List ℕ) (records : List Record) (order : List ℕ) (h : 64 ≤ length records) where
+  there : AnyShort lanes zeros order → LentShort lanes records order
+  there (inl l) = inl l
+  there (inr (inl m)) = absurd (let x : ⊥ = omega (arith, length-replicate {A = ℕ} 128 0) in x)
+  there (inr (inr o)) = inr (inr o)
 
--- how many records are written: none where a table is too short
-module _ (lanes records order : ℕ) where
-  pub none-for-lanes : lanes < 8192 → 0 ≡ placedCount lanes records order
-  unfolding recordsShort
-  none-for-lanes h = rw (lt-ltb lanes 8192 h)
-
-  module _ (a : 8192 ≤ lanes) where
-    pub none-for-records : records < 64 → 0 ≡ placedCount lanes records order
-    unfolding recordsShort
-    none-for-records h = rw (le-ltb lanes 8192 a, lt-ltb records 64 h)
-
-    module _ (b : 64 ≤ records) where
-      pub none-for-order : order < 64 → 0 ≡ placedCount lanes records order
-      unfolding recordsShort
-      none-for-order h = rw (le-ltb lanes 8192 a, le-ltb records 64 b, lt-ltb order 64 h)
-
-      pub all-placed : 64 ≤ order → 64 ≡ placedCount lanes records order
-      unfolding recordsShort
-      all-placed h = rw (le-ltb lanes 8192 a, le-ltb records 64 b, le-ltb order 64 h)
+  back : LentShort lanes records order → AnyShort lanes zeros order
+  back (inl l) = inl l
+  back (inr (inl r)) = absurd (let x : ⊥ = omega arith in x)
+  back (inr (inr o)) = inr (inr o)
 
 -- ---- the answer with the records
 
--- an outcome in numbers with the records of its moves
-with-records : {r s : Said Job} {l k m n o p : List ℕ} {rs qs : List Record} → numbers.textOutcome r l m o ≡ numbers.textOutcome s k n p → (m ≡ n → rs ≡ qs) → recordsOutcome r l rs o ≡ recordsOutcome s k qs p
-with-records e f = let g = f (λ i. e i .moves) in λ i. recordsOutcome (e i .answer) (e i .lanes) (g i) (e i .order)
+module _ (text lanes : List ℕ) (records : List Record) (order lanes′ moves′ order′ : List ℕ)
+    (records′ : List Record) (count : ℕ) (placing : Placing (length lanes) (length records) (length order) count)
+    (stored : records′ ≡ placed count records moves′) where
+  -- none is written, or all 64
+  none-written : LentShort lanes records order → records′ ≡ records
+  none-written s = stored ∙ ap (λ (n : ℕ). placed n records moves′) (placing .none s)
 
-module _ (text lanes : List ℕ) (records : List Record) (order : List ℕ) {lanes′ moves′ order′ : List ℕ}
-    {records′ : List Record} where
-  left-read : {s : Said Job} (whole : Reading) → reading text ≡ whole → 64 ≤ length records →
-      records′ ≡ placed 64 records moves′ →
-      numbers.textOutcome s lanes′ moves′ order′ ≡ numbers.leftReading whole lanes zeros order →
-      recordsOutcome s lanes′ records′ order′ ≡ leftRecords whole lanes records order
-  unfolding numbers.leftReading leftRecords
-  left-read (job j) reads h p e =
-      let fine = accepted-text text {j = j} reads .fine in
-      with-records e
-      (λ m.
-      p
-      ∙ ap (λ (x : List ℕ). placed 64 records x) m
-      ∙ records-filled (j .moves) (carriers j) records (fine .moves-paired) (fine .few-carriers) h)
-  left-read (refusal fault line) reads h p e =
-      let none = filled-none 128 zeros (omega (arith, length-replicate {A = ℕ} 128 0)) in
-      with-records e
-      (λ m.
-      p
-      ∙ ap (λ (x : List ℕ). placed 64 records x) (m ∙ sym none)
-      ∙ records-filled [] 0 records refl (omega arith) h)
+  all-written : ¬ LentShort lanes records order → (m : List ℕ) → moves′ ≡ m → records′ ≡ placed 64 records m
+  all-written n m e =
+      stored ∙ ap (λ (k : ℕ). placed k records moves′) (placing .all n) ∙ ap (λ (x : List ℕ). placed 64 records x) e
 
-  pub records-read : (r : Read) →
-      numbers.textOutcome (saidRead r) lanes′ moves′ order′
-      ≡ numbers.readOutcome text lanes (length records) zeros order →
-      records′ ≡ placed (placedCount (length lanes) (length records) (length order)) records moves′ →
-      ReadLeft text text lanes lanes′ records records′ order order′ r
-  unfolding numbers.readOutcome recordsRead
-  records-read r e p = record {
-    given =
-        cases (recordsShort (length lanes) (length records) (length order)) refl
-        (rw (short-same (length lanes) (length records) (length order)) at e) p;
-    text-kept = refl;
+  read-accepted : (counts : Job) → 64 ≤ length records
+      → AcceptedAs text lanes zeros order lanes′ moves′ order′ counts
+      → JobAccepted text lanes records order lanes′ records′ order′ counts
+  read-accepted counts h x =
+      let long : ¬ LentShort lanes records order = λ s. x .long (back lanes records order h s) in
+      let j = x .job in
+      let limit = carriers-limit j (x .writes .sound) in
+      record {
+        long = long;
+        job = j;
+        writes = x .writes;
+        is-counts = x .is-counts;
+        lanes-left = x .lanes-left;
+        records-left = all-written long _ (x .moves-left)
+            ∙ records-filled (j .moves) (carriers j) records (x .writes .paired) limit h;
+        order-left = x .order-left;
+      }
+
+  read-refused : (n line : ℕ) → 64 ≤ length records
+      → RefusedWith text lanes zeros order lanes′ moves′ order′ n line
+      → JobRefused text lanes records order lanes′ records′ order′ n line
+  read-refused n line h x = record {
+    reason = reason (x .reason);
+    lanes-left = x .lanes-left;
+    records-left = records-left (x .reason);
+    order-left = x .order-left;
   }
     where
-      cases : (b : Bool) → recordsShort (length lanes) (length records) (length order) ≡ b →
-          numbers.textOutcome (saidRead r) lanes′ moves′ order′
-          ≡ pick b (numbers.textOutcome (numbers.refuse ShortTable 0) lanes zeros order)
-          (numbers.leftReading (reading text) lanes zeros order) →
-          records′ ≡ placed (pick b 0 64) records moves′ →
-          recordsOutcome (saidRead r) lanes′ records′ order′
-          ≡ pick b (recordsOutcome (numbers.refuse ShortTable 0) lanes records order)
-          (leftRecords (reading text) lanes records order)
-      cases true s e p = with-records e (λ m. p)
-      cases false s e p =
-          left-read (reading text) refl
-          (enough-records (length lanes) (length records) (length order) s) p e
+      reason : Reason (AnyShort lanes zeros order) text n line → Reason (LentShort lanes records order) text n line
+      reason (short s a b) = short (there lanes records order h s) a b
+      reason (faulty k r) = faulty (λ s. k (back lanes records order h s)) r
+
+      records-left : Reason (AnyShort lanes zeros order) text n line → records′ ≡ leftRecords n records
+      records-left (short s a b) = none-written (there lanes records order h s) ∙ ap (λ (m : ℕ). leftRecords m records) (sym a)
+      records-left (faulty k r) =
+          let low = refused-with text n line r .1 in
+          let other : NotNine n = λ e. let y : ⊥ = omega arith in y in
+          let blank = filled-none 128 zeros (omega (arith, length-replicate {A = ℕ} 128 0)) in
+          rw (ne-eqb n 9 other)
+          (all-written (λ s. k (back lanes records order h s)) _ (x .moves-left ∙ left-by-other n 128 zeros other ∙ sym blank)
+          ∙ records-filled [] 0 records refl (omega arith) h)
+
+  given : (s : Said Job) → Beside text lanes (length records) zeros order lanes′ moves′ order′ s
+      → GivenJob text lanes records order lanes′ records′ order′ s
+  given (accepted counts) (enough _ h x) = read-accepted counts h x
+  given (refused n line) (enough _ h x) = read-refused n line h x
+  given s (few _ h e l m o) =
+      subst (GivenJob text lanes records order lanes′ records′ order′) (sym e) (record {
+        reason = short (inr (inl h)) refl refl;
+        lanes-left = l;
+        records-left = none-written (inr (inl h));
+        order-left = o;
+      })
+
+  pub records-read : (r : Read) → Beside text lanes (length records) zeros order lanes′ moves′ order′ (saidRead r)
+      → ReadLeft text text lanes lanes′ records records′ order order′ r
+  records-read r x = record { given = given (saidRead r) x; text-kept = refl }

@@ -1,10 +1,11 @@
--- One outcome fits each promise of this crate. Reading is an equation with one outcome. An accepted job has
--- one plan, so one cost, one tick and one distance for each record, and one table, since all other places are
--- decided by what came in; a refusal is the first fault, and decides what is left. A job is not both accepted
--- and refused. What is left of a house path is one, whatever question it answers (path's `left-unique`).
--- Lists that are only read are as they came. Assumes nothing.
+-- One outcome fits each promise of this crate. A text writes one job at most or has one reason to be refused,
+-- never both (ReadExactly.antt), and which it is decides what is left. An accepted job has one plan, so one
+-- cost, one tick and one distance for each record, and one table, since all other places are decided by what
+-- came in; a refusal is the first fault, and decides what is left. A job is not both accepted and refused.
+-- What is left of a house path is one, whatever question it answers (path's `left-unique`). Lists that are
+-- only read are as they came. Assumes nothing.
 --     read-job-unique, plan-unique, house-unique, judge-unique     one theorem for each public function
-use mathlib.Core.Path.{_≡_, refl, sym, _∙_, ap}
+use mathlib.Core.Path.{_≡_, sym, _∙_, ap}
 use mathlib.Core.Bool.{true}
 use mathlib.Core.List.{List}
 use Prim.Native.Nat.{ℕ, _≤_, _<_}
@@ -31,9 +32,9 @@ use Rattle.records.specs.Table.{blank, recordAt}
 use Rattle.records.proofs.Laws.{moves-count}
 use Rattle.tables.specs.Filling.{TableFilled}
 use Rattle.tables.proofs.Unique.{filling-unique}
-use Rattle.text.specs.declared.reader.Read.{Read}
-use Rattle.text.specs.Left.{saidRead}
-use Rattle.text.proofs.Left.{said-read-one}
+use Rattle.reader.specs.declared.Read.{Read}
+use Rattle.reader.specs.Reading.{saidRead}
+use Rattle.reader.proofs.Unique.{said-read-one}
 use Rattle.path.specs.declared.Housed.{Housed}
 use Rattle.path.specs.Paths.{Unfit}
 use Rattle.path.proofs.Unique.{left-unique}
@@ -42,25 +43,22 @@ use Rattle.planner.specs.declared.Planned.the-variants.{Cost, Refused}
 use Rattle.planner.specs.Planning.{saidPlanned}
 use Rattle.planner.proofs.Outcome.{filling-served}
 use Rattle.jobs.specs.Job.{recordJob}
-use Rattle.jobs.specs.Reading.{RecordsOutcome, recordsOutcome, ReadLeft}
+use Rattle.jobs.specs.Reading.{ReadLeft}
 use Rattle.jobs.specs.Planning.{recordQuestion, tickOf, RecordsPlanned, RecordsRefused, GivenRecords}
 use Rattle.jobs.specs.Planning.{RecordPlanning}
 use Rattle.jobs.specs.Asking.{RecordsKept, HouseOfRecords, ListOfRecords}
+use Rattle.jobs.proofs.ReadExactly.{reading-unique}
 
 -- ---- reading
 
 module _ (text lanes : List ℕ) (records : List Record) (order : List ℕ) (r s : Read) (t u l m : List ℕ)
     (rs qs : List Record) (o p : List ℕ) where
-  pub read-job-unique : ReadLeft text t lanes l records rs order o r → ReadLeft text u lanes m records qs order p s →
-      (r ≡ s) × (t ≡ u) × (l ≡ m) × (rs ≡ qs) × (o ≡ p)
+  pub read-job-unique : ReadLeft text t lanes l records rs order o r
+      → ReadLeft text u lanes m records qs order p s
+      → (r ≡ s) × (t ≡ u) × (l ≡ m) × (rs ≡ qs) × (o ≡ p)
   read-job-unique a b =
-      let e : recordsOutcome (saidRead r) l rs o ≡ recordsOutcome (saidRead s) m qs p = a .given ∙ sym (b .given) in (
-        said-read-one r s (ap (λ (x : RecordsOutcome). x .said) e),
-        a .text-kept ∙ sym (b .text-kept),
-        ap (λ (x : RecordsOutcome). x .lanes) e,
-        ap (λ (x : RecordsOutcome). x .records) e,
-        ap (λ (x : RecordsOutcome). x .order) e,
-      )
+      let e = reading-unique text lanes records order l rs o m qs p (saidRead r) (saidRead s) (a .given) (b .given) in
+      (said-read-one r s (e .0), a .text-kept ∙ sym (b .text-kept), e .1, e .2, e .3)
 
 -- ---- planning
 

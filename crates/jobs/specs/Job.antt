@@ -1,5 +1,5 @@
--- The job whose numbers are lent, with the carriers' records as one list (rules 1.6 and 3.10): the counts are
--- the lengths of the lent lists, and the distances and ticks that the records bring are ignored.
+-- The job whose numbers are lent, with the carriers' records as one list (rules 1.6 and 3.10): how long a
+-- list is tells its count, and whatever distances and ticks the records bring along, nobody looks at them.
 --     recordJob     the job of a network, the records and an order. Only the starts and goals of the records
 --                   enter
 use mathlib.Core.List.{List}

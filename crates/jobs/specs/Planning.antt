@@ -1,6 +1,6 @@
 -- What planning a job promises, for every input, with the records lent as one list (rules 8.23 and 9.7 to
--- 9.9): it changes only distance and tick in the records of the job, and fills the distance table. A network
--- or a list with ′ is as the question leaves it.
+-- 9.9): of a record it writes the distance and the tick and nothing else, and it fills the distance table. A
+-- network or a list with ′ is as the question leaves it.
 --     recordQuestion   the stages of planning: 9, if the table has fewer than 12,288 numbers, then those of
 --                      the job, 2 to 8
 --     tickOf           a carrier's start tick in its record

@@ -1,52 +1,48 @@
 -- What reading a job text into lent tables promises, for every input (rules 7.13, 8.21, 9.5 and 9.6): it
--- fills lanes, records and order. What a text says is the crate text's `reading`. A list with ′ is as the
--- question leaves it.
---     RecordsOutcome  what is said with what the three tables hold at the end; `recordsOutcome` puts them
---                     together
---     recordsShort    9, by the tables' lengths
+-- fills lanes, records and order. When a text is accepted as which job, and refused with which number at
+-- which line, is said in crate form. A list with ′ is as the question leaves it.
+--     LentShort       9: lanes, records or order have fewer places than their least lengths; `RecordsShort`
+--                     by the tables' lengths
 --     recordsOf       the records of the moves of a job, by carrier number, with distance and tick zero
 --     filledRecords   the records of those moves, blank ones up to the 64th, and what stood beyond
---     leftRecords     what an accepted text leaves, and what a refusal other than 9 does: it zeroes the least
---                     lengths
---     recordsRead     9 is tested before everything and leaves all tables as they came; its line is 0
---     ReadLeft        the promise: what is said and the tables at the end are those; the text is as it came
+--     leftRecords     the records after the refusal with a number: 9 leaves them as they came, every other
+--                     leaves 64 blank ones
+--     JobAccepted     no table is too short, the text is the written form of a job without faults, these are
+--                     its counts, and the tables are filled with its numbers
+--     JobRefused      there is a reason (reader's `Reason`: 9 at line 0, or what the form says of the text),
+--                     and this is left in the tables
+--     GivenJob        what is left with what is said: accepted or refused so
+--     ReadLeft        the promise: that, and the text is as it came
 --     jobRead         the job that the counts of an answer cut out of the tables: the numbers that a caller
 --                     hands on to planning
---     placedCount     how many records are written
 use mathlib.Core.Path.{_≡_}
+use mathlib.Core.Logic.{_⊎_}
+use mathlib.Core.Bool.{cond}
 use mathlib.Core.List.{List, [], _∷_, _++_}
-use mathlib.Core.Bool.{Bool}
-use Prim.Native.Nat.{ℕ, _*_, _-_}
+use Prim.Native.Nat.{ℕ, _*_, _-_, _<_}
 use lib.ListN.{length, take, drop, replicate}
-use lib.Dec.{ltb}
-use Rattle.hall.specs.declared.Fault.the-variants.{ShortTable}
+use lib.Dec.{eqb}
 use Rattle.hall.specs.declared.Job.{Job}
 use Rattle.hall.specs.Limits.{carrierLimit, laneNumbers}
 use Rattle.hall.specs.Floor.{networkOf}
 use Rattle.hall.specs.Job.{Numbers}
-use Rattle.hall.specs.Said.{Said, accepted}
-use Rattle.hall.specs.Left.{zeroed}
+use Rattle.hall.specs.Said.{Said, accepted, refused}
+use Rattle.hall.specs.Left.{filled, left}
 use Rattle.records.specs.declared.Record.{Record}
 use Rattle.records.specs.Table.{blank, fresh}
-use Rattle.text.specs.declared.reader.Read.{Read}
-use Rattle.text.specs.Bytes.{pick, either}
-use Rattle.text.specs.Reading.{Reading, job, refusal, reading}
-use Rattle.text.specs.Left.{saidRead, filled, refuse, countsOf}
+use Rattle.form.specs.Jobs.{WrittenJob}
+use Rattle.reader.specs.declared.Read.{Read}
+use Rattle.reader.specs.Reading.{saidRead, countsOf, Reason}
 use Rattle.jobs.specs.Job.{recordJob}
 
-pub record RecordsOutcome : Type 0 where
-  pub said : Said Job
-  pub lanes : List ℕ
-  pub records : List Record
-  pub order : List ℕ
+abbrev pub RecordsShort : (lanes records order : ℕ) → Type 0
+RecordsShort lanes records order =
+    (lanes < laneNumbers) ⊎ ((records < carrierLimit) ⊎ (order < carrierLimit))
 
-abbrev pub recordsOutcome : Said Job → List ℕ → List Record → List ℕ → RecordsOutcome
-recordsOutcome said lanes records order =
-    record { said = said; lanes = lanes; records = records; order = order }
+abbrev pub LentShort : (lanes : List ℕ) (records : List Record) (order : List ℕ) → Type 0
+LentShort lanes records order = RecordsShort (length lanes) (length records) (length order)
 
-unfoldable pub recordsShort : (lanes records order : ℕ) → Bool
-recordsShort lanes records order =
-    either (ltb lanes laneNumbers) (either (ltb records carrierLimit) (ltb order carrierLimit))
+-- ---- records
 
 abbrev pub recordsOf : List ℕ → List Record
 recordsOf [] = []
@@ -58,28 +54,36 @@ filledRecords moves records =
     recordsOf moves
     ++ (replicate (carrierLimit - length (recordsOf moves)) blank ++ drop carrierLimit records)
 
-unfoldable pub leftRecords : Reading → (lanes : List ℕ) (records : List Record) (order : List ℕ) →
-    RecordsOutcome
-leftRecords (job j) lanes records order =
-    recordsOutcome (accepted (countsOf j))
-    (filled (j .network .lanes) laneNumbers lanes)
-    (filledRecords (j .moves) records)
-    (filled (j .order) carrierLimit order)
-leftRecords (refusal fault line) lanes records order =
-    recordsOutcome (refuse fault line)
-    (zeroed laneNumbers lanes)
-    (filledRecords [] records)
-    (zeroed carrierLimit order)
+abbrev pub leftRecords : (number : ℕ) → List Record → List Record
+leftRecords number records = cond (eqb number 9) records (filledRecords [] records)
 
-unfoldable pub recordsRead : (text lanes : List ℕ) (records : List Record) (order : List ℕ) → RecordsOutcome
-recordsRead text lanes records order =
-    pick (recordsShort (length lanes) (length records) (length order))
-    (recordsOutcome (refuse ShortTable 0) lanes records order)
-    (leftRecords (reading text) lanes records order)
+-- ---- the promise
+
+module _ (text lanes : List ℕ) (records : List Record) (order : List ℕ) where
+  pub record JobAccepted (lanes′ : List ℕ) (records′ : List Record) (order′ : List ℕ) (counts : Job)
+      : Type 0 where
+    pub long : ¬ LentShort lanes records order
+    pub job : Numbers
+    pub writes : WrittenJob text job
+    pub is-counts : counts ≡ countsOf job
+    pub lanes-left : lanes′ ≡ filled (job .network .lanes) laneNumbers lanes
+    pub records-left : records′ ≡ filledRecords (job .moves) records
+    pub order-left : order′ ≡ filled (job .order) carrierLimit order
+
+  pub record JobRefused (lanes′ : List ℕ) (records′ : List Record) (order′ : List ℕ) (number line : ℕ)
+      : Type 0 where
+    pub reason : Reason (LentShort lanes records order) text number line
+    pub lanes-left : lanes′ ≡ left number laneNumbers lanes
+    pub records-left : records′ ≡ leftRecords number records
+    pub order-left : order′ ≡ left number carrierLimit order
+
+  abbrev pub GivenJob : (lanes′ : List ℕ) (records′ : List Record) (order′ : List ℕ) → Said Job → Type 0
+  GivenJob lanes′ records′ order′ (accepted counts) = JobAccepted lanes′ records′ order′ counts
+  GivenJob lanes′ records′ order′ (refused number line) = JobRefused lanes′ records′ order′ number line
 
 pub record ReadLeft (text text′ lanes lanes′ : List ℕ) (records records′ : List Record)
     (order order′ : List ℕ) (r : Read) : Type 0 where
-  pub given : recordsOutcome (saidRead r) lanes′ records′ order′ ≡ recordsRead text lanes records order
+  pub given : GivenJob text lanes records order lanes′ records′ order′ (saidRead r)
   pub text-kept : text′ ≡ text
 
 abbrev pub jobRead : (counts : Job) (lanes′ : List ℕ) (records′ : List Record) (order′ : List ℕ) → Numbers
@@ -87,6 +91,3 @@ jobRead counts lanes′ records′ order′ =
     recordJob (networkOf (counts .nodes) (take (2 * counts .lanes) lanes′))
     (take (counts .carriers) records′)
     (take (counts .carriers) order′)
-
-abbrev pub placedCount : (lanes records order : ℕ) → ℕ
-placedCount lanes records order = pick (recordsShort lanes records order) 0 carrierLimit

@@ -12,24 +12,27 @@ ghost use denote.Ref.{now};
 ghost use Rattle.hall.specs.Floor.{networkOf};
 ghost use Rattle.hall.specs.Job.{jobOf};
 ghost use Rattle.planner.specs.Planning.{saidPlanned, lent, Planning};
-ghost use Rattle.jobs.specs.Reading.{ReadLeft, placedCount};
+ghost use Rattle.reader.specs.Reading.{saidRead};
+ghost use Rattle.jobs.specs.Reading.{ReadLeft};
 ghost use Rattle.jobs.specs.Planning.{RecordPlanning};
 ghost use Rattle.jobs.specs.Asking.{HouseGiven, ListGiven, HouseOfRecords, ListOfRecords};
-ghost use Rattle.jobs.specs.Loading.{crowd, loaded, storedCount};
+ghost use Rattle.jobs.specs.Loading.{Beside, Placing, crowd, loaded, storedCount};
 use asks::house_for;
 use asks::judge_for;
 use hall::Carrier;
 use hall::Checked;
+use hall::Fault;
 use hall::Job;
+use hall::Refusal;
 use path::Housed;
 use planner::Planned;
 use planner::plan_moves;
+use reader::Read;
+use reader::read_numbers;
 use records::Record;
 use records::load_moves;
 use records::store_moves;
 use records::store_times;
-use text::reader::Read;
-use text::reader::read_numbers;
 
 // As many records are loaded as a job can have, and one more: it tells that there are too many.
 const LOADED: usize = Job::CARRIERS + 1;
@@ -38,9 +41,32 @@ const LOADED_NUMBERS: usize = 2 * LOADED;
 
 // ---- reading
 
+// Reads a text into numbers, beside a list of so many records, which has its own least length.
+fn read_beside(
+    text: &[u8],
+    lanes: &mut [u16],
+    records: usize,
+    moves: &mut [u16],
+    order: &mut [u16],
+) -> Read
+    ensures { λ r. ⌜ Beside
+        (now (text .entry))
+        (now (lanes .entry)) records (now (moves .entry)) (now (order .entry))
+        (now (lanes .exit)) (now (moves .exit)) (now (order .exit))
+        (saidRead r) ⌝ }
+{
+    if records < Job::CARRIERS {
+        return Read::Refused(Refusal {
+            fault: Fault::ShortTable,
+            place: 0,
+        });
+    }
+    read_numbers(text, lanes, moves, order)
+}
+
 // How many records reading writes, by the lengths of the lent tables: none if one of them is too short.
 fn placed_count(lanes: usize, records: usize, order: usize) -> usize
-    ensures { λ r. ⌜ r ≡ placedCount lanes records order ⌝ }
+    ensures { λ r. ⌜ Placing lanes records order r ⌝ }
 {
     if lanes < Job::LANE_NUMBERS {
         return 0;
@@ -64,7 +90,7 @@ pub fn read_job(text: &[u8], lanes: &mut [u16], records: &mut [Record], order: &
         (now (order .entry)) (now (order .exit)) r ⌝ }
 {
     let mut moves = [0u16; Job::MOVE_NUMBERS];
-    let answer = read_numbers(text, lanes, records.len(), &mut moves, order);
+    let answer = read_beside(text, lanes, records.len(), &mut moves, order);
     let count = placed_count(lanes.len(), records.len(), order.len());
     store_moves(records, count, &moves);
     answer

@@ -1,17 +1,19 @@
 -- The answer for a job without faults 2 to 7, from what planning promises. The lists that are lent are long
 -- enough, so the first fault of planning is that of the job, which is 8 at a carrier; what is printed is its
--- refusal with the carrier's line. Where planning answers a cost, the job has no fault, the table and the
--- ticks are its plan, and the distances that are printed are those of the plan below the number of carriers,
--- which is all that the text asks for. Assumes nothing.
+-- refusal with the carrier's line, whose number is the sum that the code makes (form's `carrier-line`). Where
+-- planning answers a cost, the job has no fault, the table and the ticks are its plan, and the distances that
+-- are printed are those of the plan below the number of carriers, which is all that the text asks for.
+-- Assumes nothing.
 --     RoomFor       the lists that are lent to planning have their least lengths
-use mathlib.Core.Path.{_≡_, refl, ap, subst}
+use mathlib.Core.Path.{_≡_, refl, sym, subst}
 use mathlib.Core.List.{List}
-use mathlib.Core.Logic.{inl, inr}
-use Prim.Native.Nat.{ℕ, zero, suc, _≤_, _<_}
+use Prim.Native.Nat.{ℕ, zero, suc, _+_, _≤_, _<_}
+use native.Mathlib.Decide.{decLt}
 use native.Mathlib.Omega.{arith}
 use lib.ListN.{length, getD}
 use Rattle.hall.specs.declared.Refusal.{Refusal}
 use Rattle.hall.specs.Limits.{carrierLimit, tableLength}
+use Rattle.hall.specs.Floor.{laneCount}
 use Rattle.hall.specs.Job.{Numbers, carriers}
 use Rattle.hall.specs.Numbers.{numberOf}
 use Rattle.hall.specs.Stages.{First, None}
@@ -24,10 +26,10 @@ use Rattle.planner.specs.declared.Planned.the-variants.{Cost, Refused}
 use Rattle.planner.specs.Planning.{saidPlanned, Lent, short-table, short-distances, short-ticks, ShortOf}
 use Rattle.planner.specs.Planning.{NumbersPlanned, NumbersRefused, Planning}
 use Rattle.planner.proofs.Faults.{none-of-job, job-first}
-use Rattle.report.specs.Printed.{carrierLines, planText, refusedText}
+use Rattle.form.proofs.CarrierLines.{carrier-line}
+use Rattle.report.specs.Printed.{printRoom, carrierLines, planText, refusedText}
 use Rattle.report.specs.Printing.{Askable, PlanPrinting, RefusedPrinting}
-use Rattle.report.specs.Answer.{lineOf, JobText, Answering}
-use Rattle.report.proofs.Decimal.{below-or-not}
+use Rattle.report.specs.Answer.{JobAnswer, Answering}
 
 -- ---- a text asks for the numbers of the carriers below the count, and for no others
 
@@ -72,36 +74,40 @@ module _ {j : Numbers} {before after : Lent} (sound : None (checksQuestion j)) (
     refused-carrier = only-eight j sound first-of-job .1 .0
 
     pub refusal-answers : {out out′ : List ℕ} {r : ℕ} →
-        RefusedPrinting n (lineOf j p) out out′ r → Answering (JobText j) out out′ r
+        RefusedPrinting n (4 + laneCount (j .network .lanes) + p) out out′ r →
+        Answering (JobAnswer j) out out′ r
     refusal-answers (RefusedPrinting.nothing short u) = Answering.nothing short u
     refusal-answers (RefusedPrinting.whole long prints) =
         let eight = only-eight j sound first-of-job .0 in
         let unreached = subst (λ (m : ℕ). First (jobQuestion j) m p) eight first-of-job in
-        let line = ap (λ (m : ℕ). refusedText m (lineOf j p)) eight in
-        Answering.whole long (JobText.unreached unreached line) prints
+        let line = sym (carrier-line j p) in
+        Answering.whole long (JobAnswer.unreached unreached (λ i. refusedText (eight i) (line i))) prints
 
   pub cost-answers : {cost : ℕ} {out out′ : List ℕ} {r : ℕ} → NumbersPlanned j before after cost →
       PlanPrinting (carriers j) (after .distances) (after .ticks) cost out out′ r →
-      Answering (JobText j) out out′ r
+      Answering (JobAnswer j) out out′ r
   cost-answers {cost} plan (PlanPrinting.whole ask prints) =
+      let tick : ℕ → ℕ = λ i. getD (after .ticks) i 0 in
+      let distance : ℕ → ℕ = λ i. getD (after .distances) i 0 in
+      let same = text-same (carriers j) tick tick distance (own (tablesIn (after .table))) cost
+      (λ i h. refl) (plan .own-distances) in
       Answering.whole (ask .room)
-      (JobText.planned (none-of-job j before (plan .no-fault)) (plan .plan)
-      (text-same (carriers j)
-      _ (λ i. getD (after .ticks) i 0) _ (own (tablesIn (after .table))) cost (λ i h. refl) (plan .own-distances)))
+      (JobAnswer.planned (none-of-job j before (plan .no-fault)) (plan .plan) same)
       prints
-  cost-answers {cost} {out} plan (PlanPrinting.nothing none u) =
-      elim (below-or-not (length out) 2048) [
-        | inl short ↦ Answering.nothing short u
-        | inr long ↦ absurd (none (askable long))
-      ]
+  cost-answers {cost} {out} {out′} {r} plan (PlanPrinting.nothing none u) =
+      cases (decLt (length out) printRoom)
     where
-      askable : 2048 ≤ length out → Askable (carriers j) (after .distances) (after .ticks) out
+      askable : printRoom ≤ length out → Askable (carriers j) (after .distances) (after .ticks) out
       askable long = record {
         few = carriers-limit j sound;
         distance-each = omega (arith, carriers-limit j sound, room .distances, plan .distances-left .size);
         tick-each = omega (arith, carriers-limit j sound, room .ticks, plan .ticks-left .size);
         room = long;
       }
+
+      cases : Dec (length out < printRoom) → Answering (JobAnswer j) out out′ r
+      cases (yes short) = Answering.nothing short u
+      cases (no long) = absurd (none (askable (omega arith)))
 
 -- ---- what a planned answer is
 

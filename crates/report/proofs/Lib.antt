@@ -1,7 +1,6 @@
 -- Laws of what is printed.
-pub mod Decimal
-pub mod Append
 pub mod Lines
+pub mod Printing
 pub mod Unique
 pub mod JobAnswers
 pub mod ReadBack

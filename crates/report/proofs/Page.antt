@@ -1,8 +1,8 @@
--- The plan program answers the job of rule 7.14 with the five lines of rule 10.5, byte for byte. The text is
--- the written form of the job, which computes, and so it is read as that job; the job is P8 of the case
--- table, which gives its ticks and its cost. The distances are 4, 4 and 1: none is more, as there are walks
--- of so many lanes, and none is less, as the goal ticks make up the cost. Assumes nothing.
---     job-text         the bytes of examples/line.txt
+-- The plan program answers the job of rule 7.14 with the five lines of rule 10.5, byte for byte. Its text is
+-- form's `example-text`, the bytes of examples/line.txt, and is the written form of the job `example`
+-- (`example-written`); the job is P8 of the case table, which gives its ticks and its cost. The distances are
+-- 4, 4 and 1: none is more, as there are walks of so many lanes, and none is less, as the goal ticks make up
+-- the cost. Assumes nothing.
 --     five-lines       the five lines
 --     printed-job      the definitions give the five lines of those ticks, distances and cost
 --     page-answered    the answer to the text is the five lines; `answer-text-unique` (OneAnswer.antt) says
@@ -15,19 +15,16 @@ use Prim.Native.Nat.{ℕ, zero, suc, _+_, _*_, _≤_, _<_}
 use native.Mathlib.Omega.{arith}
 use lib.ListN.{getD}
 use Rattle.hall.specs.Case.{Accepted, cases, line5}
-use Rattle.hall.specs.Floor.{Walk, here, step, Lane, Network, networkOf, floor}
-use Rattle.hall.specs.Job.{Numbers, jobOf, start, goal}
+use Rattle.hall.specs.Floor.{Walk, here, step, Lane, floor}
+use Rattle.hall.specs.Job.{start, goal}
 use Rattle.hall.specs.Ticks.{own, total}
 use Rattle.hall.proofs.Cases.{all-cases}
-use Rattle.hall.proofs.Sound.{checks-of-none}
 use Rattle.hall.proofs.Walks.{reverse, true-distance, lanes-symmetric}
-use Rattle.text.specs.Lines.{NODES, LANES, CARRIERS, ORDER}
-use Rattle.text.specs.Reading.{job, reading}
-use Rattle.text.specs.Written.{digits, pairLines, oneLines, written}
-use Rattle.written.proofs.WrittenTexts.{written-text}
-use Rattle.report.specs.Decimal as printing
-use Rattle.report.specs.Printed.{field, carrierLine, carrierLines, planText, refusedText}
-use Rattle.report.specs.Answer.{JobText, AnswerText}
+use Rattle.put.specs.Digits.{digitsUpTo, digits}
+use Rattle.form.specs.Lines.{further, entryLine, countLine}
+use Rattle.form.proofs.Examples.{example-text, example, example-written}
+use Rattle.report.specs.Printed.{carrierLine, carrierLines, planText, refusedText}
+use Rattle.report.specs.Answer.{JobAnswer, AnswerText}
 use Rattle.report.proofs.JobAnswers.{text-same}
 
 -- ---- the five lines
@@ -49,27 +46,19 @@ abbrev pub distances : ℕ → ℕ
 distances i = getD (4 ∷ 4 ∷ 1 ∷ []) i 0
 
 pub printed-job : planText 3 ticks distances 17 ≡ five-lines
-unfolding planText carrierLines carrierLine field printing.decimal printing.digitsUpTo five-lines
+unfolding planText carrierLines carrierLine countLine entryLine further digits digitsUpTo five-lines
 printed-job = refl
 
 -- `REFUSED 8 1024`
 pub printed-refusal :
     refusedText 8 1024 ≡ 82 ∷ 69 ∷ 70 ∷ 85 ∷ 83 ∷ 69 ∷ 68 ∷ 32 ∷ 56 ∷ 32 ∷ 49 ∷ 48 ∷ 50 ∷ 52 ∷ 10 ∷ []
-unfolding refusedText field printing.decimal printing.digitsUpTo
+unfolding refusedText further digits digitsUpTo
 printed-refusal = refl
 
 -- ---- the job
 
--- a line of five nodes; moves from 0 to 4, from 4 to 0 and from 2 to 1; carriers in the order of their
--- numbers
-abbrev pub page-network : Network
-page-network = networkOf 5 line5
-
-abbrev pub page-job : Numbers
-page-job = jobOf page-network (0 ∷ 4 ∷ 4 ∷ 0 ∷ 2 ∷ 1 ∷ []) (0 ∷ 1 ∷ 2 ∷ [])
-
 -- P8 is the eighth line of the table
-page-plan : Accepted page-job (record { ticks = 0 ∷ 5 ∷ 3 ∷ []; cost = 17 })
+page-plan : Accepted example (record { ticks = 0 ∷ 5 ∷ 3 ∷ []; cost = 17 })
 unfolding cases
 page-plan = all-cases 7 (omega arith)
 
@@ -78,19 +67,19 @@ page-plan = all-cases 7 (omega arith)
 lane : (k : ℕ) → k < 4 → Lane line5 (getD line5 (2 * k) 0) (getD line5 (2 * k + 1) 0)
 lane k h = record { k = k; inside = h; ends = inl (refl, refl) }
 
-down-the-line : Walk (floor page-network) 0 4 4
+down-the-line : Walk (floor (example .network)) 0 4 4
 down-the-line =
     step {a = 0} {b = 1} (omega arith) (lane 0 (omega arith))
     (step {a = 1} {b = 2} (omega arith) (lane 1 (omega arith))
     (step {a = 2} {b = 3} (omega arith) (lane 2 (omega arith))
     (step {a = 3} {b = 4} (omega arith) (lane 3 (omega arith)) (here {a = 4} (omega arith)))))
 
-one-back : Walk (floor page-network) 2 1 1
+one-back : Walk (floor (example .network)) 2 1 1
 one-back =
-    step {a = 2} {b = 1} (omega arith) (lanes-symmetric page-network 1 2 (lane 1 (omega arith)))
+    step {a = 2} {b = 1} (omega arith) (lanes-symmetric (example .network) 1 2 (lane 1 (omega arith)))
     (here {a = 1} (omega arith))
 
-at-most : (i : ℕ) → i < 3 → (n : ℕ) → Walk (floor page-network) (start page-job i) (goal page-job i) n →
+at-most : (i : ℕ) → i < 3 → (n : ℕ) → Walk (floor (example .network)) (start example i) (goal example i) n →
     own (page-plan .tables) i ≤ n
 at-most i h n w =
     let plan = page-plan .plan in
@@ -100,7 +89,7 @@ page-distances : (i : ℕ) → i < 3 → distances i ≡ own (page-plan .tables)
 unfolding total
 page-distances =
     let a = at-most 0 (omega arith) 4 down-the-line in
-    let b = at-most 1 (omega arith) 4 (reverse (lanes-symmetric page-network) down-the-line) in
+    let b = at-most 1 (omega arith) 4 (reverse (lanes-symmetric (example .network)) down-the-line) in
     let c = at-most 2 (omega arith) 1 one-back in
     let d = own (page-plan .tables) in
     let sum : 17 ≡ 0 + (0 + d 0) + (5 + d 1) + (3 + d 2) = page-plan .plan .cost-is in
@@ -115,32 +104,8 @@ page-distances =
 
 -- ---- the text
 
-unfoldable pub job-text : List ℕ
-job-text =
-    78 ∷ 79 ∷ 68 ∷ 69 ∷ 83 ∷ 32 ∷ 53 ∷ 10
-    ∷ 76 ∷ 65 ∷ 78 ∷ 69 ∷ 83 ∷ 32 ∷ 52 ∷ 10
-    ∷ 48 ∷ 32 ∷ 49 ∷ 10
-    ∷ 49 ∷ 32 ∷ 50 ∷ 10
-    ∷ 50 ∷ 32 ∷ 51 ∷ 10
-    ∷ 51 ∷ 32 ∷ 52 ∷ 10
-    ∷ 67 ∷ 65 ∷ 82 ∷ 82 ∷ 73 ∷ 69 ∷ 82 ∷ 83 ∷ 32 ∷ 51 ∷ 10
-    ∷ 48 ∷ 32 ∷ 52 ∷ 10
-    ∷ 52 ∷ 32 ∷ 48 ∷ 10
-    ∷ 50 ∷ 32 ∷ 49 ∷ 10
-    ∷ 79 ∷ 82 ∷ 68 ∷ 69 ∷ 82 ∷ 32 ∷ 51 ∷ 10
-    ∷ 48 ∷ 10
-    ∷ 49 ∷ 10
-    ∷ 50 ∷ 10
-    ∷ []
-
-text-written : job-text ≡ written page-job
-unfolding job-text written pairLines oneLines digits NODES LANES CARRIERS ORDER
-text-written = refl
-
-pub page-answered : AnswerText job-text five-lines
+pub page-answered : AnswerText example-text five-lines
 page-answered =
     let none = page-plan .no-fault in
-    let sound = checks-of-none page-job none in
-    let read : reading job-text ≡ job page-job = rw text-written (written-text page-job sound refl) in
     let same = text-same 3 ticks ticks distances (own (page-plan .tables)) 17 (λ i h. refl) page-distances in
-    AnswerText.accepted read (JobText.planned none (page-plan .plan) (sym printed-job ∙ same))
+    AnswerText.accepted example-written (JobAnswer.planned none (page-plan .plan) (sym printed-job ∙ same))

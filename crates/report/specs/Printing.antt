@@ -1,24 +1,21 @@
--- What printing leaves in the lent bytes, and what it answers (rule 10.6).
---     Prints             the first bytes are exactly the text, the rest is as it came, and the answer is how
---                        many bytes the text has
+-- What printing leaves in the lent bytes, and what it answers (rules 9.2, 9.13 and 10.6).
+--     Prints             the text stands in front of the bytes, zeros behind it up to 2,048, beyond them is
+--                        what came, and the answer is how many bytes the text has
 --     BytesUntouched     nothing is printed: the bytes are as they came, and the answer is 0
 --     Askable            a plan can be printed: 64 carriers at most, a distance and a tick for each, and
 --                        2,048 bytes for the text
 --     PlanPrinting       the answer to a plan, for every input
 --     RefusedPrinting    the answer to a refusal, for every input
---     overwritten        bytes that are put into a list from a place on; what lies beyond the list's end is
---                        dropped
---     Room               the bytes have room from a place on
---     Appended           bytes stand from a place on, and the answer is the place past them
 use mathlib.Core.Path.{_≡_}
-use Prim.Native.Nat.{ℕ, zero, suc, _+_, _≤_, _<_}
-use mathlib.Core.List.{List, [], _∷_, _++_}
-use lib.ListN.{length, getD, drop}
+use mathlib.Core.List.{List}
+use Prim.Native.Nat.{ℕ, _≤_, _<_}
+use lib.ListN.{length, getD}
 use Rattle.hall.specs.Limits.{carrierLimit}
+use Rattle.hall.specs.Left.{filled}
 use Rattle.report.specs.Printed.{printRoom, planText, refusedText}
 
 pub record Prints (text out out′ : List ℕ) (r : ℕ) : Type 0 where
-  pub bytes : out′ ≡ text ++ drop (length text) out
+  pub bytes : out′ ≡ filled text printRoom out
   pub size : r ≡ length text
 
 pub record BytesUntouched (out out′ : List ℕ) (r : ℕ) : Type 0 where
@@ -45,18 +42,3 @@ pub data RefusedPrinting (number line : ℕ) (out out′ : List ℕ) (r : ℕ) :
       → Prints (refusedText number line) out out′ r
       → RefusedPrinting number line out out′ r
   nothing : length out < printRoom → BytesUntouched out out′ r → RefusedPrinting number line out out′ r
-
--- ---- the steps of printing
-
-unfoldable pub overwritten : (at : ℕ) (bytes out : List ℕ) → List ℕ
-overwritten at bytes [] = []
-overwritten zero [] (x ∷ out) = x ∷ out
-overwritten zero (b ∷ bytes) (x ∷ out) = b ∷ overwritten zero bytes out
-overwritten (suc at) bytes (x ∷ out) = x ∷ overwritten at bytes out
-
-pub record Room (at : ℕ) (bytes out : List ℕ) : Type 0 where
-  pub fits : at + length bytes ≤ length out
-
-pub record Appended (out : List ℕ) (at : ℕ) (bytes out′ : List ℕ) (r : ℕ) : Type 0 where
-  pub bytes-stand : out′ ≡ overwritten at bytes out
-  pub past-them : r ≡ at + length bytes

@@ -1,31 +1,32 @@
 // The answer to a job text, as the plan program prints it: the plan of the job, or the refusal with its line.
-// Every text is taken; the answer goes to the front of the lent bytes, and into fewer than 2,048 bytes
-// nothing is printed and the answer is 0 (section 10 of the rules). A print is none of the questions of
-// section 8, so no refusal number is given for a short list, and the rest of the bytes stays as it came: the
-// bytes printed are those that the answer counts. The tables that reading and planning fill are locals,
-// 41,728 bytes of arrays.
+// Every text is taken. The answer goes to the front of the lent bytes, places behind it are zero up to 2,048,
+// and those beyond are never touched, as section 9 of the rules has it of lent lists; into fewer than 2,048
+// bytes nothing is printed and the answer is 0 (rule 10.6). A print is none of the questions of section 8, so
+// no refusal number is given for a short list. The tables that reading and planning fill are locals of their
+// least lengths, 41,728 bytes of arrays, so neither refuses with 9.
 ghost use denote.Ref.{now};
 ghost use Rattle.hall.specs.Floor.{networkOf};
 ghost use Rattle.hall.specs.Job.{jobOf};
 ghost use Rattle.hall.specs.Stages.{None};
 ghost use Rattle.hall.specs.Questions.{checksQuestion};
-ghost use Rattle.report.specs.Answer.{JobText, AnswerText, Answering};
+ghost use Rattle.report.specs.Answer.{JobAnswer, AnswerText, Answering};
 use crate::print::print_plan;
 use crate::print::print_refused;
 use hall::Job;
 use planner::Planned;
 use planner::plan_moves;
-use text::reader::Read;
-use text::reader::read_numbers;
+use reader::Read;
+use reader::read_numbers;
 
 pub mod print;
 
 // The answer for a job without faults 2 to 7. Carrier 0 stands on the line behind NODES, LANES, the lanes and
-// CARRIERS (rule 7.10).
+// CARRIERS (rule 7.10); form's `carrier-line` says that this is the line that the sections above a carrier
+// give it.
 fn answer_job(nodes: usize, lanes: &[u16], moves: &[u16], order: &[u16], out: &mut [u8]) -> usize
     requires { ⌜ None (checksQuestion (jobOf (networkOf nodes (now lanes)) (now moves) (now order))) ⌝ }
     ensures { λ r. ⌜ Answering
-        (JobText (jobOf (networkOf nodes (now (lanes .entry))) (now (moves .entry)) (now (order .entry))))
+        (JobAnswer (jobOf (networkOf nodes (now (lanes .entry))) (now (moves .entry)) (now (order .entry))))
         (now (out .entry)) (now (out .exit))
         r ⌝ }
 {
@@ -64,7 +65,7 @@ pub fn answer(text: &[u8], out: &mut [u8]) -> usize
     let mut lanes = [0u16; Job::LANE_NUMBERS];
     let mut moves = [0u16; Job::MOVE_NUMBERS];
     let mut order = [0u16; Job::CARRIERS];
-    let read = read_numbers(text, &mut lanes, Job::CARRIERS, &mut moves, &mut order);
+    let read = read_numbers(text, &mut lanes, &mut moves, &mut order);
     match read {
         Read::Job(counts) => {
             let nodes = counts.nodes;

@@ -44,18 +44,19 @@ use Rattle.records.specs.declared.Record.{Record}
 use Rattle.records.proofs.Walk.{num, ref, frees-all, puts}
 use Rattle.records.proofs.Calls.{lends-mut, unlends-mut, hands-shr, adds, parts, passes, calls-spec}
 use Rattle.records.proofs.Arrays.{repeated-is, array-opens, array-shuts, lends-array, unlends-array, shares-array, unshares-array}
-use Rattle.text.specs.declared.reader.Read.{Read}
+use Rattle.reader.specs.declared.Read.{Read}
 use Rattle.records.specs.Table.{placed}
-use Rattle.text.specs.Left.{saidRead, textOutcome, readOutcome}
-use Rattle.jobs.specs.Reading.{ReadLeft, placedCount}
+use Rattle.reader.specs.Reading.{saidRead}
+use Rattle.jobs.specs.Reading.{ReadLeft}
+use Rattle.jobs.specs.Loading.{Beside, Placing}
 use Rattle.jobs.proofs.ReadRecords.{records-read}
-use Rattle.text.proofs.reader.Read as R₀
-use Rattle.text.proofs.reader.Read.Laws as R₀′
+use Rattle.reader.proofs.Read as R₀
+use Rattle.reader.proofs.Read.Laws as R₀′
 use Rattle.records.proofs.Record as T
-use Rattle.text.proofs.reader.read_numbers as read-numbers
-use Rattle.text.proofs.reader.read_numbers.Symbol as read-numbers-def
-use Rattle.text.proofs.reader.read_numbers.Symbol.{name as #text·read-numbers}
-use Rattle.text.proofs.reader.read_numbers.Met as read-numbers-thm
+use Rattle.jobs.proofs.read_beside as read-beside
+use Rattle.jobs.proofs.read_beside.Symbol as read-beside-def
+use Rattle.jobs.proofs.read_beside.Symbol.{name as #jobs·read-beside}
+use Rattle.jobs.proofs.read_beside.Met as read-beside-thm
 use Rattle.jobs.proofs.placed_count as placed-count
 use Rattle.jobs.proofs.placed_count.Symbol as placed-count-def
 use Rattle.jobs.proofs.placed_count.Symbol.{name as #jobs·placed-count}
@@ -123,7 +124,7 @@ module _ {M : Type 1} (𝓤 : URA M) (H : Heap 𝓤) (A : Atoms 𝓤) (W : Given
       keep ! (7 ∷ 5 ∷ 3 ∷ 1 ∷ 6 ∷ 4 ∷ 2 ∷ []) $ nothing ! $ move ! (1 ∷ 0 ∷ []) $ join ! $ move ! (1 ∷ 0 ∷ []) $ join ! $ move ! (1 ∷ 0 ∷ []) $ join ! $ move ! (1 ∷ 0 ∷ []) $ join ! $ frame ! $
       nothing ! $ adds ! $ adds ! $ adds ! $ nothing ! $ fjoin ! $ frame ! $ owned ! R₀.the-row (Is R₀.the-row) (EL.makes R₀.the-type R₀′.the-plain 𝓤 H A) r (v ∷ []) is $ done !
 
-  module _ (𝓣 : Tables 𝓤 H) (known-read-numbers : Triple 𝓤 (𝓣 .C #text·read-numbers) (tripleOf 𝓤 H A read-numbers.signature (read-numbers.spec 𝓤 H A mem run))) (known-placed-count : Triple 𝓤 (𝓣 .C #jobs·placed-count) (tripleOf 𝓤 H A placed-count.signature (placed-count.spec 𝓤 H A mem run))) (known-store-moves : Triple 𝓤 (𝓣 .C #records·store-moves) (tripleOf 𝓤 H A store-moves.signature (store-moves.spec 𝓤 H A mem run))) where
+  module _ (𝓣 : Tables 𝓤 H) (known-read-beside : Triple 𝓤 (𝓣 .C #jobs·read-beside) (tripleOf 𝓤 H A read-beside.signature (read-beside.spec 𝓤 H A mem run))) (known-placed-count : Triple 𝓤 (𝓣 .C #jobs·placed-count) (tripleOf 𝓤 H A placed-count.signature (placed-count.spec 𝓤 H A mem run))) (known-store-moves : Triple 𝓤 (𝓣 .C #records·store-moves) (tripleOf 𝓤 H A store-moves.signature (store-moves.spec 𝓤 H A mem run))) where
     walk : ent 𝓤 (onEntry 𝓤 H A f.signature (κ₀, (κ₁, (κ₂, (κ₃, tt)))) (q₀, (q₁, (q₂, (q₃, tt)))) a at) (WpFn 𝓤 H (𝓣 .C) (𝓣 .Λ) code.function (mv₀ ∷ mv₁ ∷ mv₂ ∷ mv₃ ∷ []) Post)
     walk =
         let fm = fmOf 𝓤 H (W .laws) 𝓣 in
@@ -144,13 +145,13 @@ module _ {M : Type 1} (𝓤 : URA M) (H : Heap 𝓤) (A : Atoms 𝓤) (W : Given
         assigns ! (agg ! (and-then ! (load ! (from ! (stop !)) (look ! 29 refl)) (and-then ! (lit ! tt) (no-more !)))) (from ! (stop !)) (init ! 27 refl (tt, (tt, (record { fits = lit< tt }, tt)))) $
         assigns ! (addr ! (from ! (fld ! refl (hop ! (look-in ! 42 (sub ! 0 refl (whole !))) (stop !))))) (from ! (stop !)) (init ! 25 refl (tt, tt)) $
         assigns ! (agg ! (and-then ! (load ! (from ! (stop !)) (look ! 25 refl)) (and-then ! (load ! (from ! (fld ! refl (stop !))) (look-in ! 42 (sub ! 1 refl (whole !)))) (no-more !)))) (from ! (stop !)) (init ! 23 refl (tt, (tt, (record { fits = g-order .0 }, tt)))) $
-        -- `read_numbers`
+        -- `read_beside`
         move ! (6 ∷ 7 ∷ []) $ lends-mut ! tt u16 order b₃ o₃ (λ ν₁₄ δ₁₄. move ! (9 ∷ []) $ lends-array ! tt u16 moves₀ l₅ 0 128 moves-long moves-room (λ ν₁₃ δ₁₃. move ! (8 ∷ 9 ∷ []) $ lends-mut ! tt u16 lanes b₁ o₁ (λ ν₁₁ δ₁₁.
         move ! (9 ∷ []) $ hands-shr ! u8 text b₀ o₀ $
         -- what the parameters own, the last first, and the tokens
         move ! (8 ∷ 5 ∷ 2 ∷ 0 ∷ []) $ nothing ! $ adds ! $ adds ! $ passes ! w64 (length records) (g-records .0) $ adds ! $ adds ! $ move ! (6 ∷ 4 ∷ 2 ∷ 8 ∷ []) $ nothing ! $ adds ! $ adds ! $ adds ! $ adds ! $
-        calls-spec ! fm read-numbers.ended (read-numbers.clauses 𝓤 H A mem run) known-read-numbers (κ₀, (ν₁₁ ∷ [], (ν₁₃ ∷ [], (ν₁₄ ∷ [], tt)))) (q₀, (fullShare, (fullShare, (fullShare, tt)))) tt (ref b₀ o₀ γ₀ text, (ref b₁ o₁ δ₁₁ lanes, ((length records), (ref l₅ 0 δ₁₃ moves₀, (ref b₃ o₃ δ₁₄ order, tt))))) (mv₀ ∷ [], (mv₁ ∷ [], (vint w64 (length records) ∷ [], (sliceVal (l₅, 0) 128 ∷ [], (mv₃ ∷ [], tt))))) tt (id⊢ 𝓤 (emp 𝓤))
-        (λ r ws. textOutcome (saidRead r) (ws .1 .0) (ws .1 .1 .1 .0) (ws .1 .1 .1 .1 .0) ≡ readOutcome text lanes (length records) moves₀ order) (λ r ws. id⊢ 𝓤 _) (and-then ! (load ! (from ! (stop !)) (look ! 46 refl)) (and-then ! (load ! (from ! (stop !)) (look ! 31 refl)) (and-then ! (load ! (from ! (stop !)) (look ! 29 refl)) (and-then ! (load ! (from ! (stop !)) (look ! 25 refl)) (and-then ! (load ! (from ! (stop !)) (look ! 21 refl)) (no-more !)))))) (λ v₁ r₁ ws₁ e₁ is₁.
+        calls-spec ! fm read-beside.ended (read-beside.clauses 𝓤 H A mem run) known-read-beside (κ₀, (ν₁₁ ∷ [], (ν₁₃ ∷ [], (ν₁₄ ∷ [], tt)))) (q₀, (fullShare, (fullShare, (fullShare, tt)))) tt (ref b₀ o₀ γ₀ text, (ref b₁ o₁ δ₁₁ lanes, ((length records), (ref l₅ 0 δ₁₃ moves₀, (ref b₃ o₃ δ₁₄ order, tt))))) (mv₀ ∷ [], (mv₁ ∷ [], (vint w64 (length records) ∷ [], (sliceVal (l₅, 0) 128 ∷ [], (mv₃ ∷ [], tt))))) tt (id⊢ 𝓤 (emp 𝓤))
+        (λ r ws. Beside text lanes (length records) moves₀ order (ws .1 .0) (ws .1 .1 .1 .0) (ws .1 .1 .1 .1 .0) (saidRead r)) (λ r ws. id⊢ 𝓤 _) (and-then ! (load ! (from ! (stop !)) (look ! 46 refl)) (and-then ! (load ! (from ! (stop !)) (look ! 31 refl)) (and-then ! (load ! (from ! (stop !)) (look ! 29 refl)) (and-then ! (load ! (from ! (stop !)) (look ! 25 refl)) (and-then ! (load ! (from ! (stop !)) (look ! 21 refl)) (no-more !)))))) (λ v₁ r₁ ws₁ e₁ is₁.
         parts ! $ parts ! $ parts ! $ parts ! $ drop ! $ move ! (4 ∷ []) $ fsplit ! $ drop ! $ parts ! $ fsplit ! $ drop ! $ parts ! $ parts ! $ drop ! $
         let lanes₁ = ws₁ .1 .0 in
         let moves₁ = ws₁ .1 .1 .1 .0 in
@@ -164,7 +165,7 @@ module _ {M : Type 1} (𝓤 : URA M) (H : Heap 𝓤) (A : Atoms 𝓤) (W : Given
         -- what the parameters own, the last first, and the tokens
         nothing ! $ passes ! w64 (length order) (g-order .0) $ passes ! w64 (length records) (g-records .0) $ passes ! w64 (length lanes) (g-lanes .0) $ nothing ! $
         calls-spec ! fm placed-count.ended (placed-count.clauses 𝓤 H A mem run) known-placed-count tt tt tt ((length lanes), ((length records), ((length order), tt))) (vint w64 (length lanes) ∷ [], (vint w64 (length records) ∷ [], (vint w64 (length order) ∷ [], tt))) tt (id⊢ 𝓤 (emp 𝓤))
-        (λ r ws. r ≡ placedCount (length lanes) (length records) (length order)) (λ r ws. id⊢ 𝓤 _) (and-then ! (load ! (from ! (stop !)) (look ! 32 refl)) (and-then ! (load ! (from ! (stop !)) (look ! 22 refl)) (and-then ! (load ! (from ! (stop !)) (look ! 20 refl)) (no-more !)))) (λ v₂ r₂ ws₂ e₂ is₂.
+        (λ r ws. Placing (length lanes) (length records) (length order) r) (λ r ws. id⊢ 𝓤 _) (and-then ! (load ! (from ! (stop !)) (look ! 32 refl)) (and-then ! (load ! (from ! (stop !)) (look ! 22 refl)) (and-then ! (load ! (from ! (stop !)) (look ! 20 refl)) (no-more !)))) (λ v₂ r₂ ws₂ e₂ is₂.
         drop ! $ drop ! $ land ! (from ! (stop !)) (init ! 37 refl (uint-lawful 𝓤 H A W w64 .typed r₂ _ is₂ .0)) $ rewrite ! 37 (λ (u : Val). ‵ (fat fullShare (tyInt w64) l₇ 0 u)) (ap only (is₂ .0)) refl $
         assigns ! (addr ! (from ! (fld ! refl (hop ! (look-in ! 44 (sub ! 0 refl (whole !))) (stop !))))) (from ! (stop !)) (init ! 15 refl (tt, tt)) $
         assigns ! (agg ! (and-then ! (load ! (from ! (stop !)) (look ! 15 refl)) (and-then ! (load ! (from ! (fld ! refl (stop !))) (look-in ! 44 (sub ! 1 refl (whole !)))) (no-more !)))) (from ! (stop !)) (init ! 13 refl (tt, (tt, (record { fits = g-records .0 }, tt)))) $
@@ -184,15 +185,15 @@ module _ {M : Type 1} (𝓤 : URA M) (H : Heap 𝓤) (A : Atoms 𝓤) (W : Given
         -- the arrays come home
         move ! (8 ∷ []) $ array-shuts ! (num w16) 128 moves₁ l₅ 0 (long-moves₁ ∙ moves-long) $ puts ! 40 $
         returns ! (look ! 50 refl) $ frees-all ! 8 (some _ ∷ some _ ∷ some _ ∷ some _ ∷ some _ ∷ some _ ∷ some _ ∷ some _ ∷ some _ ∷ some _ ∷ some _ ∷ some _ ∷ some _ ∷ some _ ∷ some _ ∷ some _ ∷ some _ ∷ some _ ∷ some _ ∷ some _ ∷ some _ ∷ some _ ∷ []) refl $
-        by ! (exits r₁ v₁ lanes₁ records₃ order₁ is₁ (records-read text lanes records order r₁ e₁ (rw e₂ at e₃)) (long-lanes₁) (long-records₃) (long-order₁))))))))))))))))))))))))))))))))))))
+        by ! (exits r₁ v₁ lanes₁ records₃ order₁ is₁ (records-read text lanes records order lanes₁ moves₁ order₁ records₃ r₂ e₂ e₃ r₁ e₁) (long-lanes₁) (long-records₃) (long-order₁))))))))))))))))))))))))))))))))))))
 
-module _ {M : Type 1} (𝓤 : URA M) (H : Heap 𝓤) (A : Atoms 𝓤) (W : Given 𝓤 H A) (mem : Memory → SProp 𝓤) (run : Routine → Fun 𝓤) (𝓣 : Tables 𝓤 H) (known-read-numbers : Triple 𝓤 (𝓣 .C #text·read-numbers) (tripleOf 𝓤 H A read-numbers.signature (read-numbers.spec 𝓤 H A mem run))) (known-placed-count : Triple 𝓤 (𝓣 .C #jobs·placed-count) (tripleOf 𝓤 H A placed-count.signature (placed-count.spec 𝓤 H A mem run))) (known-store-moves : Triple 𝓤 (𝓣 .C #records·store-moves) (tripleOf 𝓤 H A store-moves.signature (store-moves.spec 𝓤 H A mem run))) where
+module _ {M : Type 1} (𝓤 : URA M) (H : Heap 𝓤) (A : Atoms 𝓤) (W : Given 𝓤 H A) (mem : Memory → SProp 𝓤) (run : Routine → Fun 𝓤) (𝓣 : Tables 𝓤 H) (known-read-beside : Triple 𝓤 (𝓣 .C #jobs·read-beside) (tripleOf 𝓤 H A read-beside.signature (read-beside.spec 𝓤 H A mem run))) (known-placed-count : Triple 𝓤 (𝓣 .C #jobs·placed-count) (tripleOf 𝓤 H A placed-count.signature (placed-count.spec 𝓤 H A mem run))) (known-store-moves : Triple 𝓤 (𝓣 .C #records·store-moves) (tripleOf 𝓤 H A store-moves.signature (store-moves.spec 𝓤 H A mem run))) where
   walks : Walks 𝓤 H A f.ended stayed (WpFn 𝓤 H (𝓣 .C) (𝓣 .Λ) code.function) (f.clauses 𝓤 H A mem run)
   walks = walked 𝓤 H A f.ended stayed (f.clauses 𝓤 H A mem run) (WpFn 𝓤 H (𝓣 .C) (𝓣 .Λ) code.function) (λ κs. (slice-vals, (slice-vals, (slice-vals, (slice-vals, tt)))))
       (λ κs. (shr-slice-tells (named 0) (κs .0) u8, (mut-slice-tells (named 1) (κs .1 .0) u16, (mut-slice-tells (named 2) (κs .1 .1 .0) T.the-row, (mut-slice-tells (named 3) (κs .1 .1 .1 .0) u16, tt)))))
       (λ κs qs bounds a g are. via 𝓤 _ (fst∗ 𝓤 _ (emp 𝓤))
       (walk 𝓤 H A W mem run (κs .0) (κs .1 .0) (κs .1 .1 .0) (κs .1 .1 .1 .0) (qs .0) (qs .1 .0) (qs .1 .1 .0) (qs .1 .1 .1 .0) (a .0 .ptr .0) (a .0 .ptr .1) (a .1 .0 .ptr .0) (a .1 .0 .ptr .1) (a .1 .1 .0 .ptr .0) (a .1 .1 .0 .ptr .1) (a .1 .1 .1 .0 .ptr .0) (a .1 .1 .1 .0 .ptr .1) (a .0 .name) (a .1 .0 .name) (a .1 .1 .0 .name) (a .1 .1 .1 .0 .name)
-      (a .0 .now) (a .1 .0 .now) (a .1 .1 .0 .now) (a .1 .1 .1 .0 .now) (are .0 .0 .1) (are .1 .0 .0 .1) (are .1 .1 .0 .0 .1) (are .1 .1 .1 .0 .0 .1) 𝓣 known-read-numbers known-placed-count known-store-moves))
+      (a .0 .now) (a .1 .0 .now) (a .1 .1 .0 .now) (a .1 .1 .1 .0 .now) (are .0 .0 .1) (are .1 .0 .0 .1) (are .1 .1 .0 .0 .1) (are .1 .1 .1 .0 .0 .1) 𝓣 known-read-beside known-placed-count known-store-moves))
 
   meets : Meets 𝓤 H A f.signature (WpFn 𝓤 H (𝓣 .C) (𝓣 .Λ) code.function) (f.spec 𝓤 H A mem run)
   meets = walk-meets 𝓤 H A f.ended stayed W
@@ -205,6 +206,6 @@ read-job-spec 𝓤 H 𝓜 𝓖 𝓡 =
     entered 𝓤 H (tripleOf 𝓤 H (𝓖 .A) f.signature (f.spec 𝓤 H (𝓖 .A) (𝓜 .mem) (𝓡 .run)))
     (tables 𝓤 H 𝓜 𝓡 code.env .C) (tables 𝓤 H 𝓜 𝓡 code.env .Λ) #jobs·read-job code.function (code.unfolded 𝓤 H 𝓜 𝓡)
     (meets 𝓤 H (𝓖 .A) (givenOf 𝓤 H 𝓜 𝓖) (𝓜 .mem) (𝓡 .run) (tablesOf 𝓤 H 𝓜 (tables 𝓤 H 𝓜 𝓡 code.env))
-    (cited 𝓤 H (tripleOf 𝓤 H (𝓖 .A) read-numbers.signature (read-numbers.spec 𝓤 H (𝓖 .A) (𝓜 .mem) (𝓡 .run))) 𝓜 𝓡 code.env #text·read-numbers read-numbers-def.routine code.calls-text·reader·read-numbers (read-numbers-thm.met 𝓤 H 𝓜 𝓖 𝓡))
+    (cited 𝓤 H (tripleOf 𝓤 H (𝓖 .A) read-beside.signature (read-beside.spec 𝓤 H (𝓖 .A) (𝓜 .mem) (𝓡 .run))) 𝓜 𝓡 code.env #jobs·read-beside read-beside-def.routine code.calls-jobs·read-beside (read-beside-thm.met 𝓤 H 𝓜 𝓖 𝓡))
     (cited 𝓤 H (tripleOf 𝓤 H (𝓖 .A) placed-count.signature (placed-count.spec 𝓤 H (𝓖 .A) (𝓜 .mem) (𝓡 .run))) 𝓜 𝓡 code.env #jobs·placed-count placed-count-def.routine code.calls-jobs·placed-count (placed-count-thm.met 𝓤 H 𝓜 𝓖 𝓡))
     (cited 𝓤 H (tripleOf 𝓤 H (𝓖 .A) store-moves.signature (store-moves.spec 𝓤 H (𝓖 .A) (𝓜 .mem) (𝓡 .run))) 𝓜 𝓡 code.env #records·store-moves store-moves-def.routine code.calls-records·store-moves (store-moves-thm.met 𝓤 H 𝓜 𝓖 𝓡)))

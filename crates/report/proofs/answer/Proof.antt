@@ -1,13 +1,13 @@
--- `report::answer` meets its contract: the tables that are lent to reading have their least lengths, so
--- counts mean that the numbers in front of them are a job without faults 2 to 7, whose answer is handed on,
--- and a refusal is that of the text's reading, and is printed. Assumes nothing.
+-- `report::answer` meets its contract: counts mean that the text is the written form of the job whose numbers
+-- stand in front of the tables, and the answer for this job is handed on; the tables that are lent to reading
+-- have their least lengths, so a refusal is the text's, and is printed. Assumes nothing.
 use borrow.Author.Needs.{needs}
 use mathlib.Core.Path.{sym}
 use Prim.Native.Nat.{_*_, _≤_}
 use native.Mathlib.Omega.{arith}
 use lib.ListN.{length}
 use lib.Seq.{length-take-le}
-use Rattle.report.proofs.ReadBack.{JobRead, job-read, refusal-read, job-answers, refused-answers}
+use Rattle.report.proofs.ReadBack.{ReadBack, job-back, refusal-back, job-answers, refused-answers}
 use Rattle.report.proofs.answer.Statement.{statement}
 use Rattle.report.proofs.answer.Tie as tie
 
@@ -29,26 +29,36 @@ enum-known-read c = search needs
 -- the job that was read
 job-of : (c : tie.After-struct-known) →
     let called = c .before .before .before .before .before .before .before in
+    let start = called .before .before .before .before .before .before in
     let left = called .read-numbers .last in
-    JobRead (called .before .before .before .before .before .before .args .text .now) (left .1 .0) (left .1 .1 .1 .0) (left .1 .1 .1 .1 .0) (c .before .before .read .given .0 .0)
+    ReadBack (start .args .text .now) (left .1 .0) (left .1 .1 .0) (left .1 .1 .1 .0)
+    (c .before .before .read .given .0 .0)
 job-of c =
     let matched = c .before .before in
     let called = matched .before .before .before .before .before in
-    job-read _ _ _ _ (record { for-lanes = search needs; for-moves = search needs; for-order = search needs })
-    (matched .read .given .1) (called .read-numbers .ensures)
+    job-back _ _ _ _ (matched .read .given .1) (called .read-numbers .ensures)
 
 -- the tables are as long as they came
 long-lanes : (c : tie.After-struct-known) →
-    2 * c .before .before .read .given .0 .0 .lanes ≤ length (c .before .before .before .before .before .before .before .read-numbers .last .1 .0)
-long-lanes c = omega (arith, job-of c .few-lanes, c .before .before .before .before .before .before .before .read-numbers .kept .1 .0)
+    let called = c .before .before .before .before .before .before .before in
+    2 * c .before .before .read .given .0 .0 .lanes ≤ length (called .read-numbers .last .1 .0)
+long-lanes c =
+    let called = c .before .before .before .before .before .before .before in
+    omega (arith, job-of c .few-lanes, called .read-numbers .kept .1 .0)
 
 long-moves : (c : tie.After-struct-known) →
-    2 * c .before .before .read .given .0 .0 .carriers ≤ length (c .before .before .before .before .before .before .before .read-numbers .last .1 .1 .1 .0)
-long-moves c = omega (arith, job-of c .few-carriers, c .before .before .before .before .before .before .before .read-numbers .kept .1 .1 .1 .0)
+    let called = c .before .before .before .before .before .before .before in
+    2 * c .before .before .read .given .0 .0 .carriers ≤ length (called .read-numbers .last .1 .1 .0)
+long-moves c =
+    let called = c .before .before .before .before .before .before .before in
+    omega (arith, job-of c .few-carriers, called .read-numbers .kept .1 .1 .0)
 
 long-order : (c : tie.After-struct-known) →
-    c .before .before .read .given .0 .0 .carriers ≤ length (c .before .before .before .before .before .before .before .read-numbers .last .1 .1 .1 .1 .0)
-long-order c = omega (arith, job-of c .few-carriers, c .before .before .before .before .before .before .before .read-numbers .kept .1 .1 .1 .1 .0)
+    let called = c .before .before .before .before .before .before .before in
+    c .before .before .read .given .0 .0 .carriers ≤ length (called .read-numbers .last .1 .1 .1 .0)
+long-order c =
+    let called = c .before .before .before .before .before .before .before in
+    omega (arith, job-of c .few-carriers, called .read-numbers .kept .1 .1 .1 .0)
 
 mul-numbers : tie.Need-mul-numbers
 mul-numbers c = omega (arith, job-of c .few-lanes)
@@ -75,7 +85,7 @@ slice-aggregate-answer-job-3 : tie.Need-slice-aggregate-answer-job-3
 slice-aggregate-answer-job-3 c = sym (length-take-le _ _ (long-order (c .before .before .before)))
 
 answer-job-requires : tie.Need-answer-job-requires
-answer-job-requires c κs = job-of (c .before .before .before .before) .sound
+answer-job-requires c κs = job-of (c .before .before .before .before) .writes .sound
 
 enum-known-read-2 : tie.Need-enum-known-read-2
 enum-known-read-2 c = search needs
@@ -104,8 +114,8 @@ returns-2 c =
     let matched = numbered .before .before in
     let called = matched .before .before .before .before .before in
     refused-answers
-    (refusal-read _ _ _ _ (record { for-lanes = search needs; for-moves = search needs; for-order = search needs })
-    (matched .read2 .given .1) (called .read-numbers .ensures))
+    (refusal-back _ _ _ _ _ _ _ (search needs) (search needs) (search needs) (matched .read2 .given .1)
+    (called .read-numbers .ensures))
     (rw (numbered .number .ensures) at (printed .print-refused .ensures))
 
 pub answer-spec : {M : Type 1} → statement M

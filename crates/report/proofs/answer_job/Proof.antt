@@ -1,5 +1,6 @@
 -- `report::answer_job` meets its contract: the lists that are lent to planning have their least lengths, so
--- what planning promises is the answer for the job, and printing writes it. Assumes nothing.
+-- what planning promises is the answer for the job, and printing writes it. A refused carrier is one of the
+-- job's, so the number of its line is no sum that wraps. Assumes nothing.
 use borrow.Author.Needs.{needs}
 use native.Mathlib.Omega.{arith}
 use Rattle.report.proofs.JobAnswers.{refused-carrier, refusal-answers, cost-answers}
@@ -43,7 +44,8 @@ add-line c =
     let called = matched .before .before .before .before .before in
     let start = called .before .before .before .before .before .before .before .before in
     let refuses = planned-refused (matched .planned2 .given .1) (called .plan-moves .ensures) in
-    let few = refused-carrier (start .pre) (record { table = search needs; distances = search needs; ticks = search needs }) refuses in
+    let few = refused-carrier (start .pre)
+    (record { table = search needs; distances = search needs; ticks = search needs }) refuses in
     omega (arith, few, start .good)
 
 number-requires : tie.Need-number-requires

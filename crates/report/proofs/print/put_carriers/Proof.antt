@@ -1,25 +1,26 @@
--- `report::print::put_carriers` meets its contract. The invariant: the lines of the carriers passed stand
--- from the place on. The measure is how many carriers are left. Assumes nothing.
+-- `report::print::put_carriers` meets its contract. The invariant: the lines of the carriers passed are put
+-- from the place on, and the next goes past them. The measure is how many carriers are left. Assumes nothing.
 use mathlib.Core.Path.{_≡_}
 use Prim.Native.Nat.{_-_, _≤_}
 use native.Mathlib.Omega.{arith}
 use borrow.Author.Needs.{needs}
 use lib.ListN.{getD}
+use Rattle.put.specs.Putting.{Put}
+use Rattle.put.proofs.Putting.{put-none, put-then, put-kept}
 use Rattle.report.specs.Printed.{carrierLines}
-use Rattle.report.specs.Printing.{Appended}
-use Rattle.report.proofs.Append.{appended-none, appended-then, appended-length, room-then}
-use Rattle.report.proofs.Lines.{no-lines, next-line, room-next}
+use Rattle.report.proofs.Lines.{no-lines, next-line}
 use Rattle.report.proofs.print.put_carriers.Statement.{statement}
 use Rattle.report.proofs.print.put_carriers.Tie as tie
 
 abbrev Inv-loop : tie.InvT-loop
-Inv-loop carriers distances ticks out₀ at next₀ i₀ out next i = (i ≤ carriers) × Appended out₀ at (carrierLines i (λ i. getD ticks i 0) (λ i. getD distances i 0)) out next
+Inv-loop carriers distances ticks out₀ at next₀ i₀ out next i =
+    (i ≤ carriers) × Put out₀ at (carrierLines i (λ i. getD ticks i 0) (λ i. getD distances i 0)) out next
 
 abbrev μ-loop : tie.MeasureT-loop
 μ-loop carriers distances ticks out₀ at next₀ i₀ out next i = carriers - i
 
 loop-holds : tie.Need-loop-holds Inv-loop μ-loop
-loop-holds c = (omega arith, rw no-lines (appended-none _ _))
+loop-holds c = (omega arith, rw no-lines (put-none _ _))
 
 mul-tick : tie.Need-mul-tick Inv-loop μ-loop
 mul-tick c = search needs
@@ -34,11 +35,7 @@ shared-slice-read-distance : tie.Need-shared-slice-read-distance Inv-loop μ-loo
 shared-slice-read-distance c = search needs
 
 put-carrier-requires : tie.Need-put-carrier-requires Inv-loop μ-loop
-put-carrier-requires c κs =
-    let turn = c .before .before .before in
-    let loop = turn .before .loop in
-    let start = turn .before .before .before .before .before in
-    room-then (loop .inv .1) (room-next (loop .i) (start .args .carriers) _ _ (turn .loop-test .taken) (start .pre .2))
+put-carrier-requires c κs = search needs
 
 add-i : tie.Need-add-i Inv-loop μ-loop
 add-i c = search needs
@@ -50,10 +47,10 @@ loop-again : tie.Need-loop-again Inv-loop μ-loop
 loop-again c =
     let called = c .before .before in
     let loop = called .before .before .before .before .before .loop in
-    (omega arith, rw next-line (appended-then (loop .inv .1) (called .put-carrier .ensures)))
+    (omega arith, rw next-line (put-then (loop .inv .1) (called .put-carrier .ensures)))
 
 same-length : tie.Need-same-length Inv-loop μ-loop
-same-length c = appended-length (c .before .loop .inv .1)
+same-length c = put-kept (c .before .loop .inv .1)
 
 returns : tie.Need-returns Inv-loop μ-loop
 returns c =
