@@ -80,8 +80,11 @@ pub fn answers_to(case: &Case) -> Vec<Answer> {
             Case::ReadRecords { lanes, records, order, text } => {
                 Answer::Left(lent::read_to_records(*lanes, *records, *order, text))
             }
-            Case::ReadMoves { lanes, records, moves, order, text } => {
-                Answer::Left(lent::read_to_moves(*lanes, *records, *moves, *order, text))
+            Case::ReadMoves { lanes, moves, order, text } => {
+                Answer::Left(lent::read_to_moves(*lanes, *moves, *order, text))
+            }
+            Case::PrintTo { out, text } => {
+                Answer::Left(lent::print_to(*out, &answer_to_text(text).printed()))
             }
             Case::PlanRecords { table, job } => {
                 Answer::Left(lent::plan_records(*table, &job.hall, &job.records, &job.order))

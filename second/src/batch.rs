@@ -30,7 +30,9 @@ pub enum Case {
     /// `r`: read a text into lent tables and records of these lengths.
     ReadRecords { lanes: u16, records: u16, order: u16, text: Vec<u8> },
     /// `m`: the same on numbers.
-    ReadMoves { lanes: u16, records: u16, moves: u16, order: u16, text: Vec<u8> },
+    ReadMoves { lanes: u16, moves: u16, order: u16, text: Vec<u8> },
+    /// `a`: print the answer to a text into lent bytes.
+    PrintTo { out: u16, text: Vec<u8> },
     /// `p`: plan a job of records into a lent table.
     PlanRecords { table: u16, job: Recorded },
     /// `t`: the same on numbers, with lists for distances and ticks.
@@ -54,7 +56,11 @@ pub struct Recorded {
 }
 
 /// All kinds, in the order in which the histogram shows them.
-pub const KINDS: &[u8] = b"PRHhQqCNnrmptowjc";
+pub const KINDS: &[u8] = b"PRHhQqCNnrmaptowjc";
+
+/// The kinds that lend tables full of marks. A program of their own answers
+/// them.
+pub const MARKED_KINDS: &[u8] = b"rmaptowjc";
 
 fn put_short(out: &mut Vec<u8>, number: u16) {
     out.extend(number.to_le_bytes());
@@ -181,6 +187,7 @@ impl Case {
             Case::MoveNumbers { .. } => b'n',
             Case::ReadRecords { .. } => b'r',
             Case::ReadMoves { .. } => b'm',
+            Case::PrintTo { .. } => b'a',
             Case::PlanRecords { .. } => b'p',
             Case::PlanLists { .. } => b't',
             Case::PathOfRecords { .. } => b'o',
@@ -234,8 +241,12 @@ impl Case {
                 put_shorts(&mut out, &[*lanes, *records, *order]);
                 out.extend(text);
             }
-            Case::ReadMoves { lanes, records, moves, order, text } => {
-                put_shorts(&mut out, &[*lanes, *records, *moves, *order]);
+            Case::ReadMoves { lanes, moves, order, text } => {
+                put_shorts(&mut out, &[*lanes, *moves, *order]);
+                out.extend(text);
+            }
+            Case::PrintTo { out: lent, text } => {
+                put_short(&mut out, *lent);
                 out.extend(text);
             }
             Case::PlanRecords { table, job } => {
@@ -316,9 +327,9 @@ impl Case {
                 order: rest.short()?,
                 text: rest.text(),
             },
+            b'a' => Case::PrintTo { out: rest.short()?, text: rest.text() },
             b'm' => Case::ReadMoves {
                 lanes: rest.short()?,
-                records: rest.short()?,
                 moves: rest.short()?,
                 order: rest.short()?,
                 text: rest.text(),

@@ -12,6 +12,8 @@ use crate::rule::Distances;
 use crate::text;
 
 pub const MARK: u32 = 7777;
+/// The mark of a lent byte.
+pub const BYTE_MARK: u32 = 77;
 
 /// How many places the batch program has for each table. A longer one is not
 /// lent; the generator stays below.
@@ -22,6 +24,7 @@ pub const MOVE_PLACES: usize = 200;
 pub const TABLE_PLACES: usize = 12_400;
 pub const TIME_PLACES: usize = 100;
 pub const PATH_PLACES: usize = 1100;
+pub const BYTE_PLACES: usize = 2100;
 
 /// The least lengths.
 pub const LEAST_LANES: usize = 2 * MOST_LANES;
@@ -32,6 +35,7 @@ pub const BLOCK: usize = MOST_CARRIERS * MOST_CARRIERS;
 pub const LEAST_TABLE: usize = 3 * BLOCK;
 pub const LEAST_TIMES: usize = MOST_CARRIERS;
 pub const LEAST_PATH: usize = MOST_NODES as usize;
+pub const LEAST_BYTES: usize = 2048;
 
 /// What a record brings along; its distance and its tick are not looked at.
 #[derive(Clone, Copy)]
@@ -151,9 +155,8 @@ pub fn read_to_records(lanes: u16, records: u16, order: u16, text: &[u8]) -> Len
     Lent { said: said_of_reading(&read), tables }
 }
 
-pub fn read_to_moves(lanes: u16, records: u16, moves: u16, order: u16, text: &[u8]) -> Lent {
+pub fn read_to_moves(lanes: u16, moves: u16, order: u16, text: &[u8]) -> Lent {
     let enough = usize::from(lanes) >= LEAST_LANES
-        && usize::from(records) >= LEAST_RECORDS
         && usize::from(moves) >= LEAST_MOVES
         && usize::from(order) >= LEAST_ORDER;
     let read = reading(enough, text);
@@ -163,6 +166,20 @@ pub fn read_to_moves(lanes: u16, records: u16, moves: u16, order: u16, text: &[u
         ("order", after_reading(&read, ORDER_PLACES, LEAST_ORDER, |job| wide(&job.order))),
     ];
     Lent { said: said_of_reading(&read), tables }
+}
+
+/// Printing into bytes: the text, zeros up to the least length, marks beyond.
+/// Into fewer bytes nothing is printed, and no refusal has a number for it.
+pub fn print_to(out: u16, printed: &str) -> Lent {
+    let enough = usize::from(out) >= LEAST_BYTES;
+    let mut bytes = vec![BYTE_MARK; BYTE_PLACES];
+    if enough {
+        for (at, place) in bytes[..LEAST_BYTES].iter_mut().enumerate() {
+            *place = printed.as_bytes().get(at).copied().unwrap_or(0).into();
+        }
+    }
+    let count = if enough { printed.len() } else { 0 };
+    Lent { said: Ok(format!("BYTES {}", count)), tables: vec![("out", bytes)] }
 }
 
 /// The distance table of a job that was planned: three blocks, a row of 64

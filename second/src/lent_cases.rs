@@ -9,9 +9,9 @@ use crate::dice::Dice;
 use crate::halls::{ample_job, any_hall, any_job, grid, job_over, line, parted_job, scattered};
 use crate::job::{Hall, Job, Move};
 use crate::lent::{
-    Record, LANE_PLACES, LEAST_LANES, LEAST_MOVES, LEAST_ORDER, LEAST_PATH, LEAST_RECORDS,
-    LEAST_TABLE, LEAST_TIMES, MARK, MOVE_PLACES, ORDER_PLACES, PATH_PLACES, RECORD_PLACES,
-    TABLE_PLACES, TIME_PLACES,
+    Record, BYTE_PLACES, LANE_PLACES, LEAST_BYTES, LEAST_LANES, LEAST_MOVES, LEAST_ORDER,
+    LEAST_PATH, LEAST_RECORDS, LEAST_TABLE, LEAST_TIMES, MARK, MOVE_PLACES, ORDER_PLACES,
+    PATH_PLACES, RECORD_PLACES, TABLE_PLACES, TIME_PLACES,
 };
 use crate::lists::{proposal, some_move};
 use crate::page;
@@ -28,6 +28,7 @@ const MOVES: Room = (LEAST_MOVES, MOVE_PLACES);
 const TABLE: Room = (LEAST_TABLE, TABLE_PLACES);
 const TIMES: Room = (LEAST_TIMES, TIME_PLACES);
 const PATH: Room = (LEAST_PATH, PATH_PLACES);
+const BYTES: Room = (LEAST_BYTES, BYTE_PLACES);
 
 /// Lengths of several tables: all least, all one more, all that there is, and
 /// each one short while the others are long enough; then all short, and none.
@@ -103,8 +104,11 @@ fn text_cases(dice: &mut Dice) -> Vec<Case> {
         for [lanes, records, order] in length_rows([LANES, RECORDS, ORDER]) {
             cases.push(Case::ReadRecords { lanes, records, order, text: text.clone() });
         }
-        for [lanes, records, moves, order] in length_rows([LANES, RECORDS, MOVES, ORDER]) {
-            cases.push(Case::ReadMoves { lanes, records, moves, order, text: text.clone() });
+        for [lanes, moves, order] in length_rows([LANES, MOVES, ORDER]) {
+            cases.push(Case::ReadMoves { lanes, moves, order, text: text.clone() });
+        }
+        for [out] in length_rows([BYTES]) {
+            cases.push(Case::PrintTo { out, text: text.clone() });
         }
     }
     cases
@@ -250,14 +254,18 @@ fn some_job(dice: &mut Dice) -> Job {
 /// A random case of each kind in turn. The text is the caller's.
 pub fn random_lent(dice: &mut Dice, turn: usize, text: Vec<u8>) -> Case {
     let job = some_job(dice);
-    match turn % 8 {
+    match turn % 9 {
         0 => {
             let [lanes, records, order] = some_lengths(dice, [LANES, RECORDS, ORDER]);
             Case::ReadRecords { lanes, records, order, text }
         }
         1 => {
-            let [lanes, records, moves, order] = some_lengths(dice, [LANES, RECORDS, MOVES, ORDER]);
-            Case::ReadMoves { lanes, records, moves, order, text }
+            let [lanes, moves, order] = some_lengths(dice, [LANES, MOVES, ORDER]);
+            Case::ReadMoves { lanes, moves, order, text }
+        }
+        7 => {
+            let [out] = some_lengths(dice, [BYTES]);
+            Case::PrintTo { out, text }
         }
         2 => {
             let [table] = some_lengths(dice, [TABLE]);

@@ -44,6 +44,7 @@ const USAGE: &str = "usage:
   second answer FILE                answer every case of a batch file
   second generate SEED COUNT FILE   write a batch file
   second limit NAME COUNT FILE      write a batch that repeats a limit-size job
+  second split FILE PLAIN MARKED    write the cases of a batch to two, by kind
   second safe FILE                  try all paths of small plans of a batch
   second compare FILE ANSWERS      hold another program's answers to these
   second show FILE CASE             write the payload of one case
@@ -59,6 +60,12 @@ fn print(bytes: &[u8]) -> Result<(), String> {
 fn cases_in(path: &str) -> Result<Vec<batch::Case>, String> {
     let file = std::fs::read(path).map_err(|fault| format!("{}: {}", path, fault))?;
     batch::cases_of(&file).map_err(|fault| format!("{}: {}", path, fault))
+}
+
+fn write_batch(path: &str, cases: &[batch::Case]) -> Result<(), String> {
+    let mut file = Vec::new();
+    cases.iter().for_each(|case| case.put(&mut file));
+    std::fs::write(path, file).map_err(|fault| format!("{}: {}", path, fault))
 }
 
 fn number(word: &str) -> Result<u64, String> {
@@ -86,9 +93,7 @@ fn answer_command(path: &str) -> Result<bool, String> {
 
 fn generate_command(seed: &str, count: &str, path: &str) -> Result<bool, String> {
     let cases = generate::batch(number(seed)?, number(count)? as usize);
-    let mut file = Vec::new();
-    cases.iter().for_each(|case| case.put(&mut file));
-    std::fs::write(path, file).map_err(|fault| format!("{}: {}", path, fault))?;
+    write_batch(path, &cases)?;
     eprint!("{}", histogram::histogram(&cases));
     Ok(true)
 }
@@ -96,9 +101,16 @@ fn generate_command(seed: &str, count: &str, path: &str) -> Result<bool, String>
 fn limit_command(name: &str, count: &str, path: &str) -> Result<bool, String> {
     let cases = limit_size::batch(name, number(count)? as usize)
         .ok_or_else(|| format!("no job {}; there are {}", name, limit_size::NAMES.join(", ")))?;
-    let mut file = Vec::new();
-    cases.iter().for_each(|case| case.put(&mut file));
-    std::fs::write(path, file).map_err(|fault| format!("{}: {}", path, fault))?;
+    write_batch(path, &cases)?;
+    Ok(true)
+}
+
+/// Every case goes to one of the two files, in the order of the batch.
+fn split_command(path: &str, plain: &str, marked: &str) -> Result<bool, String> {
+    let has_marks = |case: &batch::Case| batch::MARKED_KINDS.contains(&case.kind());
+    let (with, without): (Vec<_>, Vec<_>) = cases_in(path)?.into_iter().partition(has_marks);
+    write_batch(plain, &without)?;
+    write_batch(marked, &with)?;
     Ok(true)
 }
 
@@ -152,6 +164,7 @@ fn main() -> ExitCode {
         ["answer", path] => answer_command(path),
         ["generate", seed, count, path] => generate_command(seed, count, path),
         ["limit", name, count, path] => limit_command(name, count, path),
+        ["split", path, plain, marked] => split_command(path, plain, marked),
         ["safe", path] => safe_command(path),
         ["compare", path, answers] => compare_command(path, answers),
         ["show", path, case] => show_command(path, case),

@@ -32,7 +32,7 @@ fn reading(checks: &mut Checks) {
     }
     let refused = "REFUSED 2 11\nlanes 8192x0 108x7777\nmoves 128x0 72x7777\norder 64x0 36x7777\n";
     let spoiled = PRINTED_JOB.replace("ORDER 3", "ORDER 2");
-    let found = lent::read_to_moves(8192, 64, 128, 64, spoiled.as_bytes()).printed();
+    let found = lent::read_to_moves(8192, 128, 64, spoiled.as_bytes()).printed();
     checks.same("read, refused", found.as_str(), refused);
 }
 

@@ -1,18 +1,22 @@
 // The questions that take records, for programs that have numbers: each makes an array of 80 records, lends
 // its first `count` to the question, and writes the whole array back as numbers. So a program can lend 63, 64
-// or 70 records, and see what is left in each of them and in those behind, with no walk of its own.
+// or 70 records, and see what is left in each of them and in those behind, with no proof by hand of its own.
 //
 // The records' numbers are `fields`, in four columns of 80: the starts, the goals, the distances, the ticks.
 // A list that is shorter is read as far as it goes and then as zeros, and written as far as it goes; a start,
 // goal or distance above 65,535 counts as 65,535. Of a count above 80 the array is what there is.
 //
-// Promised is only that each function is safe for every input, ends, and keeps the list's length: these
-// functions serve a comparison by running, which looks at what they leave. What the questions promise is said
-// and proved where they stand, in `jobs`.
+// Promised is, for every input, that the question's own promise in `jobs` holds of the records made and lent,
+// and that `fields` ends as what the question leaves of them and those behind, written back
+// (specs/Lent.antt). That fixes the answer, every lent table and `fields` (proofs/Unique.antt). Nothing is
+// decided here.
 ghost use mathlib.Core.Path.{_≡_};
-ghost use Prim.Native.Nat.{_<_, _≤_};
-ghost use lib.ListN.{length};
+ghost use Prim.Native.Nat.{_<_, min};
+ghost use lib.ListN.{set};
 ghost use denote.Ref.{now};
+ghost use Rattle.hall.specs.Floor.{networkOf};
+ghost use Rattle.lent.specs.Lent.{lendable, halfOf, numberIn, recordFrom, madeOf, tellTo, toldTo};
+ghost use Rattle.lent.specs.Lent.{LentReading, LentPlanning, LentHouse, LentList};
 use hall::Carrier;
 use hall::Checked;
 use jobs::house;
@@ -21,22 +25,35 @@ use jobs::plan;
 use jobs::read_job;
 use path::Housed;
 use planner::Planned;
+use reader::Read;
 use records::Record;
-use text::reader::Read;
+
+// How many records are made, and how long a column is.
+const LENDABLE: usize = 80;
+
+// Where the columns behind the starts begin.
+const GOALS: usize = LENDABLE;
+
+const DISTANCES: usize = 2 * LENDABLE;
+
+const TICKS: usize = 3 * LENDABLE;
 
 // ---- records and numbers
 
-// The number that a count of records is cut to: the array has 80.
+// The number that a count of records is cut to: there are no more in the array.
 fn within(count: usize) -> usize
-    ensures { λ r. ⌜ r ≤ 80 ⌝ }
+    ensures { λ r. ⌜ r ≡ min count lendable ⌝ }
 {
-    if count < 80 {
+    if count < LENDABLE {
         return count;
     }
-    80
+    LENDABLE
 }
 
-fn half(x: u32) -> u16 {
+// A number as a node or a distance: what is above 65,535 counts as 65,535.
+fn half(x: u32) -> u16
+    ensures { λ r. ⌜ r ≡ halfOf x ⌝ }
+{
     if x < 65536 {
         return x as u16;
     }
@@ -44,7 +61,9 @@ fn half(x: u32) -> u16 {
 }
 
 // The number at a place, 0 where the list has none.
-fn number_at(fields: &[u32], at: usize) -> u32 {
+fn number_at(fields: &[u32], at: usize) -> u32
+    ensures { λ r. ⌜ r ≡ numberIn (now (fields .entry)) at ⌝ }
+{
     if at < fields.len() {
         return fields[at];
     }
@@ -53,26 +72,29 @@ fn number_at(fields: &[u32], at: usize) -> u32 {
 
 // The record of carrier i, a number from each column.
 fn record_of(fields: &[u32], i: usize) -> Record
-    requires { ⌜ i < 80 ⌝ }
+    requires { ⌜ i < lendable ⌝ }
+    ensures { λ r. ⌜ r ≡ recordFrom (now (fields .entry)) i ⌝ }
 {
     Record {
         start: half(number_at(fields, i)),
-        goal: half(number_at(fields, i + 80)),
-        distance: half(number_at(fields, i + 160)),
-        tick: number_at(fields, i + 240),
+        goal: half(number_at(fields, i + GOALS)),
+        distance: half(number_at(fields, i + DISTANCES)),
+        tick: number_at(fields, i + TICKS),
     }
 }
 
 // The array of records that the columns give.
-fn made(fields: &[u32]) -> [Record; 80] {
+fn made(fields: &[u32]) -> [Record; LENDABLE]
+    ensures { λ r. ⌜ r ≡ madeOf (now (fields .entry)) ⌝ }
+{
     let mut records = [Record {
         start: 0,
         goal: 0,
         distance: 0,
         tick: 0,
-    }; 80];
+    }; LENDABLE];
     let mut i: usize = 0;
-    while i < 80 {
+    while i < LENDABLE {
         records[i] = record_of(fields, i);
         i += 1;
     }
@@ -80,7 +102,9 @@ fn made(fields: &[u32]) -> [Record; 80] {
 }
 
 // Writes a number at a place that the list has.
-fn put(fields: &mut [u32], at: usize, number: u32) {
+fn put(fields: &mut [u32], at: usize, number: u32)
+    ensures { λ _. ⌜ now (fields .exit) ≡ set (now (fields .entry)) at number ⌝ }
+{
     if at < fields.len() {
         fields[at] = number;
     }
@@ -88,18 +112,21 @@ fn put(fields: &mut [u32], at: usize, number: u32) {
 
 // Writes a record to the columns.
 fn tell(r: Record, i: usize, fields: &mut [u32])
-    requires { ⌜ i < 80 ⌝ }
+    requires { ⌜ i < lendable ⌝ }
+    ensures { λ _. ⌜ now (fields .exit) ≡ tellTo r i (now (fields .entry)) ⌝ }
 {
     put(fields, i, r.start as u32);
-    put(fields, i + 80, r.goal as u32);
-    put(fields, i + 160, r.distance as u32);
-    put(fields, i + 240, r.tick);
+    put(fields, i + GOALS, r.goal as u32);
+    put(fields, i + DISTANCES, r.distance as u32);
+    put(fields, i + TICKS, r.tick);
 }
 
 // Writes an array of records to the columns.
-fn told(records: [Record; 80], fields: &mut [u32]) {
+fn told(records: [Record; LENDABLE], fields: &mut [u32])
+    ensures { λ _. ⌜ now (fields .exit) ≡ toldTo records (now (fields .entry)) ⌝ }
+{
     let mut i: usize = 0;
-    while i < 80 {
+    while i < LENDABLE {
         tell(records[i], i, fields);
         i += 1;
     }
@@ -115,7 +142,13 @@ pub fn read_lent(
     order: &mut [u16],
     fields: &mut [u32],
 ) -> Read
-    ensures { λ _. ⌜ length (now (fields .exit)) ≡ length (now (fields .entry)) ⌝ }
+    ensures { λ r. ⌜ LentReading
+        (now (text .entry)) (now (text .exit))
+        (now (lanes .entry)) (now (lanes .exit))
+        count
+        (now (order .entry)) (now (order .exit))
+        (now (fields .entry)) (now (fields .exit))
+        r ⌝ }
 {
     let mut records = made(fields);
     let n = within(count);
@@ -133,7 +166,13 @@ pub fn plan_lent(
     table: &mut [u16],
     fields: &mut [u32],
 ) -> Planned
-    ensures { λ _. ⌜ length (now (fields .exit)) ≡ length (now (fields .entry)) ⌝ }
+    ensures { λ r. ⌜ LentPlanning
+        (networkOf nodes (now (lanes .entry))) (networkOf nodes (now (lanes .exit)))
+        count
+        (now (order .entry)) (now (order .exit))
+        (now (table .entry)) (now (table .exit))
+        (now (fields .entry)) (now (fields .exit))
+        r ⌝ }
 {
     let mut records = made(fields);
     let n = within(count);
@@ -152,7 +191,14 @@ pub fn house_lent(
     path: &mut [u16],
     fields: &mut [u32],
 ) -> Housed
-    ensures { λ _. ⌜ length (now (fields .exit)) ≡ length (now (fields .entry)) ⌝ }
+    ensures { λ r. ⌜ LentHouse
+        (networkOf nodes (now (lanes .entry))) (networkOf nodes (now (lanes .exit)))
+        count
+        (now (order .entry)) (now (order .exit))
+        (carrier .0)
+        (now (path .entry)) (now (path .exit))
+        (now (fields .entry)) (now (fields .exit))
+        r ⌝ }
 {
     let records = made(fields);
     let n = within(count);
@@ -171,7 +217,14 @@ pub fn judge_lent(
     list: &[u16],
     fields: &mut [u32],
 ) -> Checked
-    ensures { λ _. ⌜ length (now (fields .exit)) ≡ length (now (fields .entry)) ⌝ }
+    ensures { λ r. ⌜ LentList
+        (networkOf nodes (now (lanes .entry))) (networkOf nodes (now (lanes .exit)))
+        count
+        (now (order .entry)) (now (order .exit))
+        (carrier .0)
+        (now (list .entry)) (now (list .exit))
+        (now (fields .entry)) (now (fields .exit))
+        r ⌝ }
 {
     let records = made(fields);
     let n = within(count);

@@ -1,39 +1,36 @@
 // The kinds of cases. Each takes its payload apart, asks the library one question, or two, and prints the
-// answer.
-use super::choice;
-use super::marked;
+// answer. Those with a text are here, those from numbers in `numbers`.
 use super::numbers;
-use super::payload::front;
-use super::payload::least;
-use super::payload::load;
-use super::payload::opening;
-use super::payload::rest;
-use super::payload::short_at;
-use super::payload::short_size_at;
-use super::print;
 use asks::house_for;
 use asks::judge_for;
+use batch::payload::behind_list;
+use batch::payload::front;
+use batch::payload::least;
+use batch::payload::list_room;
+use batch::payload::loaded_list;
+use batch::payload::opening;
+use batch::payload::rest;
+use batch::payload::short_at;
+use batch::print;
 use hall::Carrier;
-use hall::Checked;
 use hall::Job;
-use path::Housed;
+use path::choose;
 use path::house;
 use path::judge;
-use text::reader::Read;
-use text::reader::read_numbers;
+use reader::Read;
+use reader::read_numbers;
 
 pub(crate) fn answer(kind: u8, s: &[u8]) {
     match kind {
         b'P' => plan_text(s),
-        b'R' => read_text(s),
-        b'H' => house_of_job(s),
-        b'h' => house_of_move(s),
-        b'Q' => list_of_job(s),
-        b'q' => list_of_move(s),
-        b'C' => choice::answer(s),
+        b'R' => no_list(kind, s, 0),
+        b'H' => no_list(kind, s, 2),
+        b'h' => no_list(kind, s, 4),
+        b'Q' => one_list(kind, s, 2),
+        b'q' => one_list(kind, s, 4),
+        b'C' => two_lists(kind, s, 4),
         b'N' => numbers::job(s),
         b'n' => numbers::network(s),
-        b'r' | b'm' | b'p' | b't' | b'o' | b'w' | b'j' | b'c' => marked::answer(kind, s),
         _ => print::word(b"no such kind\n"),
     }
 }
@@ -44,208 +41,131 @@ fn plan_text(s: &[u8]) {
     print::word(opening(&out, n));
 }
 
-fn read_text(s: &[u8]) {
+// A question about a text, behind a carrier or a move of so many bytes. The kinds with fewer lists than two
+// look at none that is handed on in its place.
+fn no_list(kind: u8, s: &[u8], at: usize) {
+    ask_text(kind, s, rest(s, at), &[0], &[0]);
+}
+
+// The same with a list between the two.
+fn one_list(kind: u8, s: &[u8], at: usize) {
+    let from = rest(s, at);
+    let mut room = list_room();
+    let list = loaded_list(from, &mut room);
+    ask_text(kind, s, behind_list(from), list, list);
+}
+
+// The same with two lists.
+fn two_lists(kind: u8, s: &[u8], at: usize) {
+    let from = rest(s, at);
+    let behind = behind_list(from);
+    let mut own_room = list_room();
+    let mut spare_room = list_room();
+    let own = loaded_list(from, &mut own_room);
+    let spare = loaded_list(behind, &mut spare_room);
+    ask_text(kind, s, behind_list(behind), own, spare);
+}
+
+fn ask_text<'a>(kind: u8, s: &[u8], text: &[u8], own: &'a [u16], spare: &'a [u16]) {
     let mut lanes = [0u16; Job::LANE_NUMBERS];
     let mut moves = [0u16; Job::MOVE_NUMBERS];
     let mut order = [0u16; Job::CARRIERS];
-    match read_numbers(s, &mut lanes, Job::CARRIERS, &mut moves, &mut order) {
-        Read::Job(job) => print_job(job, &lanes, &moves, &order),
-        Read::Refused(r) => print::refused(r),
-    }
-}
-
-fn print_job(job: Job, lanes: &[u16], moves: &[u16], order: &[u16]) {
-    let lane_end = 2 * least(job.lanes, Job::LANES);
-    let count = least(job.carriers, Job::CARRIERS);
-    let move_end = 2 * count;
-    print::word(b"READ ");
-    print::size(job.nodes);
-    print::space();
-    print::sizes(job.lanes, job.carriers);
-    print_pairs(front(lanes, lane_end));
-    print_pairs(front(moves, move_end));
-    print_lines(front(order, count));
-}
-
-// Two numbers a line.
-fn print_pairs(numbers: &[u16]) {
-    let n = numbers.len();
-    let mut i: usize = 0;
-    while i + 1 < n {
-        print::nodes(numbers[i], numbers[i + 1]);
-        i += 2;
-    }
-}
-
-// One number a line.
-fn print_lines(numbers: &[u16]) {
-    let n = numbers.len();
-    let mut i: usize = 0;
-    while i < n {
-        print::node(numbers[i]);
-        print::line_feed();
-        i += 1;
-    }
-}
-
-pub(crate) fn print_house(answer: Housed, path: &[u16]) {
-    match answer {
-        Housed::Nodes(count) => {
-            print::word(b"PATH ");
-            print::size(count);
-            print::line_feed();
-            print_nodes(front(path, count));
+    match read_numbers(text, &mut lanes, &mut moves, &mut order) {
+        Read::Job(job) => {
+            let lane_count = least(job.lanes, Job::LANES);
+            let count = least(job.carriers, Job::CARRIERS);
+            ask_job(
+                kind,
+                s,
+                job,
+                front(&lanes, 2 * lane_count),
+                front(&moves, 2 * count),
+                front(&order, count),
+                own,
+                spare,
+            );
         }
-        Housed::Refused(r) => print::refused(r),
-    }
-}
-
-// The space before every node of a line but the first.
-fn print_gap(i: usize) {
-    if 0 < i {
-        print::space();
-    }
-}
-
-fn print_nodes(path: &[u16]) {
-    let n = path.len();
-    let mut i: usize = 0;
-    while i < n {
-        print_gap(i);
-        print::node(path[i]);
-        i += 1;
-    }
-    print::line_feed();
-}
-
-pub(crate) fn print_passed(answer: Checked) {
-    match answer {
-        Checked::Sound => print::word(b"PASSED\n"),
-        Checked::Refused(r) => print::refused(r),
-    }
-}
-
-fn house_of_job(s: &[u8]) {
-    let carrier = Carrier(short_at(s, 0));
-    let mut lanes = [0u16; Job::LANE_NUMBERS];
-    let mut moves = [0u16; Job::MOVE_NUMBERS];
-    let mut order = [0u16; Job::CARRIERS];
-    match read_numbers(
-        rest(s, 2),
-        &mut lanes,
-        Job::CARRIERS,
-        &mut moves,
-        &mut order,
-    ) {
-        Read::Job(job) => house_in_job(job, &lanes, &moves, &order, carrier),
         Read::Refused(r) => print::refused(r),
     }
 }
 
-fn house_in_job(job: Job, lanes: &[u16], moves: &[u16], order: &[u16], carrier: Carrier) {
-    let mut path = [0u16; Job::NODES];
-    let lane_end = 2 * least(job.lanes, Job::LANES);
-    let count = least(job.carriers, Job::CARRIERS);
-    let move_end = 2 * count;
-    let answer = house_for(
-        job.nodes,
-        front(lanes, lane_end),
-        front(moves, move_end),
-        front(order, count),
-        carrier,
-        &mut path,
-    );
-    print_house(answer, &path);
-}
-
-fn house_of_move(s: &[u8]) {
-    let start = short_at(s, 0);
-    let goal = short_at(s, 2);
-    let mut lanes = [0u16; Job::LANE_NUMBERS];
-    let mut moves = [0u16; Job::MOVE_NUMBERS];
-    let mut order = [0u16; Job::CARRIERS];
-    match read_numbers(
-        rest(s, 4),
-        &mut lanes,
-        Job::CARRIERS,
-        &mut moves,
-        &mut order,
-    ) {
-        Read::Job(job) => house_in_network(job, &lanes, start, goal),
-        Read::Refused(r) => print::refused(r),
-    }
-}
-
-fn house_in_network(job: Job, lanes: &[u16], start: u16, goal: u16) {
-    let mut path = [0u16; Job::NODES];
-    let lane_end = 2 * least(job.lanes, Job::LANES);
-    let answer = house(job.nodes, front(lanes, lane_end), start, goal, &mut path);
-    print_house(answer, &path);
-}
-
-fn list_of_job(s: &[u8]) {
-    let carrier = Carrier(short_at(s, 0));
-    let count = short_size_at(s, 2);
-    let text_at = 4 + 2 * count;
-    let mut list = [0u16; 65535];
-    load(rest(s, 4), count, &mut list);
-    judge_job(rest(s, text_at), carrier, front(&list, count));
-}
-
-fn judge_job(text: &[u8], carrier: Carrier, list: &[u16]) {
-    let mut lanes = [0u16; Job::LANE_NUMBERS];
-    let mut moves = [0u16; Job::MOVE_NUMBERS];
-    let mut order = [0u16; Job::CARRIERS];
-    match read_numbers(text, &mut lanes, Job::CARRIERS, &mut moves, &mut order) {
-        Read::Job(job) => judge_in_job(job, &lanes, &moves, &order, carrier, list),
-        Read::Refused(r) => print::refused(r),
-    }
-}
-
-fn judge_in_job(
+// A question about the job that the text has, or about a carrier of it, whose number stands at the front of
+// the payload.
+fn ask_job<'a>(
+    kind: u8,
+    s: &[u8],
     job: Job,
     lanes: &[u16],
     moves: &[u16],
     order: &[u16],
-    carrier: Carrier,
-    list: &[u16],
+    own: &'a [u16],
+    spare: &'a [u16],
 ) {
-    let lane_end = 2 * least(job.lanes, Job::LANES);
-    let count = least(job.carriers, Job::CARRIERS);
-    let move_end = 2 * count;
-    let answer = judge_for(
-        job.nodes,
-        front(lanes, lane_end),
-        front(moves, move_end),
-        front(order, count),
-        carrier,
-        list,
-    );
-    print_passed(answer);
-}
-
-fn list_of_move(s: &[u8]) {
-    let start = short_at(s, 0);
-    let goal = short_at(s, 2);
-    let count = short_size_at(s, 4);
-    let text_at = 6 + 2 * count;
-    let mut list = [0u16; 65535];
-    load(rest(s, 6), count, &mut list);
-    judge_move(rest(s, text_at), start, goal, front(&list, count));
-}
-
-fn judge_move(text: &[u8], start: u16, goal: u16, list: &[u16]) {
-    let mut lanes = [0u16; Job::LANE_NUMBERS];
-    let mut moves = [0u16; Job::MOVE_NUMBERS];
-    let mut order = [0u16; Job::CARRIERS];
-    match read_numbers(text, &mut lanes, Job::CARRIERS, &mut moves, &mut order) {
-        Read::Job(job) => judge_in_network(job, &lanes, start, goal, list),
-        Read::Refused(r) => print::refused(r),
+    let nodes = job.nodes;
+    let carrier = Carrier(short_at(s, 0));
+    match kind {
+        b'R' => {
+            print::read(Read::Job(job));
+            rows(lanes, 2);
+            rows(moves, 2);
+            rows(order, 1);
+        }
+        b'H' => {
+            let mut path = [0u16; Job::NODES];
+            let length = print::housed(house_for(nodes, lanes, moves, order, carrier, &mut path));
+            rows(front(&path, length), length);
+        }
+        b'Q' => print::judged(judge_for(nodes, lanes, moves, order, carrier, own)),
+        _ => ask_move(
+            kind,
+            nodes,
+            lanes,
+            short_at(s, 0),
+            short_at(s, 2),
+            own,
+            spare,
+        ),
     }
 }
 
-fn judge_in_network(job: Job, lanes: &[u16], start: u16, goal: u16, list: &[u16]) {
-    let lane_end = 2 * least(job.lanes, Job::LANES);
-    let answer = judge(job.nodes, front(lanes, lane_end), start, goal, list);
-    print_passed(answer);
+// A question about a move in the network that the text has.
+fn ask_move<'a>(
+    kind: u8,
+    nodes: usize,
+    lanes: &[u16],
+    start: u16,
+    goal: u16,
+    own: &'a [u16],
+    spare: &'a [u16],
+) {
+    match kind {
+        b'h' => print_house(nodes, lanes, start, goal),
+        b'q' => print::judged(judge(nodes, lanes, start, goal, own)),
+        _ => print::chosen(choose(nodes, lanes, start, goal, own, spare), own),
+    }
+}
+
+// The house path of a move, with its nodes on a line.
+pub(crate) fn print_house(nodes: usize, lanes: &[u16], start: u16, goal: u16) {
+    let mut path = [0u16; Job::NODES];
+    let length = print::housed(house(nodes, lanes, start, goal, &mut path));
+    rows(front(&path, length), length);
+}
+
+// Prints numbers, so many a line.
+pub(crate) fn rows(numbers: &[u16], width: usize) {
+    let n = numbers.len();
+    let mut i: usize = 0;
+    let mut left = width;
+    while i < n {
+        print::number(numbers[i] as u64);
+        i += 1;
+        if 1 < left {
+            print::word(b" ");
+            left -= 1;
+        } else {
+            print::word(b"\n");
+            left = width;
+        }
+    }
 }

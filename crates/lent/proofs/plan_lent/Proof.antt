@@ -2,9 +2,10 @@
 -- that it calls is that each meets its contract. Each reference stays whole between the calls, beside its
 -- token, and the array of records is a local like any other. For a call a reference is lent for a lifetime of
 -- the call's own and comes back; for `plan` the array is opened, its front is lent, and it is shut again
--- (`Fronts.antt`). Assumes nothing.
+-- (`Fronts.antt`). What the calls say of records, answer and numbers is carried to the exit, where it is the
+-- promise (`Lent.antt`'s `lends`). Assumes nothing.
 use mathlib.Core.Path.{_≡_, refl, ap, _∙_}
-use Prim.Native.Nat.{ℕ, _<_, _≤_, _^_}
+use Prim.Native.Nat.{ℕ, _<_, _^_, min}
 use mathlib.Core.Option.{some}
 use mathlib.Core.List.{List, [], _∷_, _++_}
 use lib.ListN.{length, take, drop as behind}
@@ -18,7 +19,7 @@ use prog.Memory.{Memory}
 use prog.Routine.{Routine}
 use prog.Wp.{Heap, WpFn, Tables}
 use ghost.Atoms.{Atoms}
-use contract.Monad.{Fun, factI}
+use contract.Monad.{Fun}
 use contract.Running.{givenOf, tables, tablesOf}
 use types.Kit.{Given, Item, ‵, _⊛_, ⋆, _$_, _∵_, !, qed, by, move, keep, drop, split, join, rewrite, fsplit, fjoin, suffices, frame, done}
 use types.Part.{whole, sub, look-in, agg}
@@ -43,6 +44,10 @@ use Rattle.records.proofs.Walk.{ref, frees-all, puts}
 use Rattle.records.proofs.Calls.{lends-mut, unlends-mut, shares-mut, unshares-mut, hands-shr, adds, parts, passes, calls-spec}
 use Rattle.records.proofs.Arrays.{array-opens}
 use Rattle.records.proofs.Table.{rec}
+use Rattle.hall.specs.Floor.{networkOf}
+use Rattle.jobs.specs.Planning.{RecordPlanning}
+use Rattle.lent.specs.Lent.{madeOf, toldTo, LentPlanning}
+use Rattle.lent.proofs.Lent.{within-lendable, lends}
 use Rattle.lent.proofs.Fronts.{lends-front, unlends-front, array-shuts-is, Records, records-typed, records-makes, room-within, front-fits}
 use denote.Enum.Laws as EL
 use Rattle.planner.specs.declared.Planned.{Planned}
@@ -107,10 +112,10 @@ module _ {M : Type 1} (𝓤 : URA M) (H : Heap 𝓤) (A : Atoms 𝓤) (W : Given
       ‵ (MutSlice erased κ₂ u16 .own (ref b₂ o₂ γ₂ z-table) (mv₂ ∷ [])) ∷ ‵ (flft κ₂ q₂) ∷
       ‵ (MutSlice erased κ₃ u32 .own (ref b₃ o₃ γ₃ z-fields) (mv₃ ∷ [])) ∷ ‵ (flft κ₃ q₃) ∷ []
 
-  exits : (r : Planned) (v : Val) (z-table : List ℕ) (z-fields : List ℕ) → Is E₀.the-row r (v ∷ []) → length z-table ≡ length table → length z-fields ≡ length fields → ent 𝓤 (⋆ 𝓤 H A (Refs z-table z-fields)) (Post v)
-  exits r v z-table z-fields is long-table long-fields =
+  exits : (r : Planned) (v : Val) (z-table : List ℕ) (z-fields : List ℕ) → Is E₀.the-row r (v ∷ []) → LentPlanning (networkOf nodes lanes) (networkOf nodes lanes) count order order table z-table fields z-fields r → length z-table ≡ length table → length z-fields ≡ length fields → ent 𝓤 (⋆ 𝓤 H A (Refs z-table z-fields)) (Post v)
+  exits r v z-table z-fields is e long-table long-fields =
       qed W (Refs z-table z-fields) ∵
-      suffices ! _ (ends-at 𝓤 H A f.ended stayed (f.clauses 𝓤 H A mem run) W (((κ₀, (κ₁, (κ₂, (κ₃, tt)))), (q₀, (q₁, (q₂, (q₃, tt)))), tt, a, at), tt) v r (tt, (tt, (tt, (tt, (z-table, (z-fields, tt)))))) (tt, (tt, (tt, (tt, (long-table, (long-fields, tt))))))) $ says ! long-fields $
+      suffices ! _ (ends-at 𝓤 H A f.ended stayed (f.clauses 𝓤 H A mem run) W (((κ₀, (κ₁, (κ₂, (κ₃, tt)))), (q₀, (q₁, (q₂, (q₃, tt)))), tt, a, at), tt) v r (tt, (tt, (tt, (tt, (z-table, (z-fields, tt)))))) (tt, (tt, (tt, (tt, (long-table, (long-fields, tt))))))) $ says ! e $
       keep ! (7 ∷ 5 ∷ 3 ∷ 1 ∷ 6 ∷ 4 ∷ []) $ nothing ! $ move ! (1 ∷ 0 ∷ []) $ join ! $ move ! (1 ∷ 0 ∷ []) $ join ! $ move ! (1 ∷ 0 ∷ []) $ join ! $ move ! (1 ∷ 0 ∷ []) $ join ! $ frame ! $
       nothing ! $ adds ! $ adds ! $ nothing ! $ fjoin ! $ nothing ! $ fjoin ! $ nothing ! $ fjoin ! $ nothing ! $ fjoin ! $ frame ! $ owned ! E₀.the-row (Is E₀.the-row) (EL.makes E₀.the-type E₀′.the-plain 𝓤 H A) r (v ∷ []) is $ done !
 
@@ -130,7 +135,7 @@ module _ {M : Type 1} (𝓤 : URA M) (H : Heap 𝓤) (A : Atoms 𝓤) (W : Given
         move ! (6 ∷ 7 ∷ []) $ shares-mut ! tt u32 fields b₃ o₃ (λ ν₁₀ δ₁₀.
         nothing ! $ adds ! $ move ! (1 ∷ []) $ nothing ! $ adds ! $
         calls-spec ! fm made.ended (made.clauses 𝓤 H A mem run) known-made (ν₁₀ ∷ [], tt) (fullShare, tt) tt (ref b₃ o₃ δ₁₀ fields, tt) (mv₃ ∷ [], tt) tt (id⊢ 𝓤 (emp 𝓤))
-        (λ r ws. Unit {0}) (λ r ws. factI 𝓤 (Unit {0}) _ tt) (and-then ! (load ! (from ! (stop !)) (look ! 22 refl)) (no-more !)) (λ v₁ r₁ ws₁ e₁ is₁.
+        (λ r ws. r ≡ madeOf fields) (λ r ws. id⊢ 𝓤 _) (and-then ! (load ! (from ! (stop !)) (look ! 22 refl)) (no-more !)) (λ v₁ r₁ ws₁ e₁ is₁.
         parts ! $ drop ! $ move ! (1 ∷ []) $ drop ! $
         unshares-mut ! tt u32 fields b₃ o₃ $
         move ! (2 ∷ 3 ∷ 4 ∷ 5 ∷ 6 ∷ 7 ∷ 0 ∷ 1 ∷ []) $
@@ -139,7 +144,7 @@ module _ {M : Type 1} (𝓤 : URA M) (H : Heap 𝓤) (A : Atoms 𝓤) (W : Given
         -- `within`
         nothing ! $ passes ! w64 count (g-count) $ nothing ! $
         calls-spec ! fm within.ended (within.clauses 𝓤 H A mem run) known-within tt tt tt (count, tt) (vint w64 count ∷ [], tt) tt (id⊢ 𝓤 (emp 𝓤))
-        (λ r ws. r ≤ 80) (λ r ws. id⊢ 𝓤 _) (and-then ! (load ! (from ! (stop !)) (look ! 41 refl)) (no-more !)) (λ v₂ r₂ ws₂ e₂ is₂.
+        (λ r ws. r ≡ min count 80) (λ r ws. id⊢ 𝓤 _) (and-then ! (load ! (from ! (stop !)) (look ! 41 refl)) (no-more !)) (λ v₂ r₂ ws₂ e₂ is₂.
         drop ! $ drop ! $
         land ! (from ! (stop !)) (init ! 30 refl (uint-lawful 𝓤 H A W w64 .typed r₂ _ is₂ .0)) $ rewrite ! 30 (λ (u : Val). ‵ (fat fullShare (tyInt w64) l₈ 0 u)) (ap only (is₂ .0)) refl $
         assigns ! (addr ! (from ! (stop !))) (from ! (stop !)) (init ! 20 refl (tt, tt)) $
@@ -147,10 +152,10 @@ module _ {M : Type 1} (𝓤 : URA M) (H : Heap 𝓤) (A : Atoms 𝓤) (W : Given
         assigns ! (addr ! (from ! (fld ! refl (hop ! (look-in ! 36 (sub ! 0 refl (whole !))) (stop !))))) (from ! (stop !)) (init ! 16 refl (tt, tt)) $
         assigns ! (agg ! (and-then ! (load ! (from ! (stop !)) (look ! 16 refl)) (and-then ! (load ! (from ! (fld ! refl (stop !))) (look-in ! 36 (sub ! 1 refl (whole !)))) (no-more !)))) (from ! (stop !)) (init ! 14 refl (tt, (tt, (record { fits = g-table .0 }, tt)))) $
         -- `plan`
-        move ! (4 ∷ 5 ∷ []) $ lends-mut ! tt u16 table b₂ o₂ (λ ν₃₄ δ₃₄. move ! (5 ∷ []) $ hands-shr ! u16 order b₁ o₁ $ move ! (34 ∷ []) $ array-opens ! rec tt 80 r₁ l₇ 0 _ is₁ $ lends-front ! tt T.the-row r₁ l₇ 0 r₂ (front-fits r₁ r₂ (is₁ .1 .0 .1) e₂) (room-within r₂ e₂) (λ ν₃₂ δ₃₂. move ! (8 ∷ []) $ hands-shr ! u16 lanes b₀ o₀ $
+        move ! (4 ∷ 5 ∷ []) $ lends-mut ! tt u16 table b₂ o₂ (λ ν₃₄ δ₃₄. move ! (5 ∷ []) $ hands-shr ! u16 order b₁ o₁ $ move ! (34 ∷ []) $ array-opens ! rec tt 80 r₁ l₇ 0 _ is₁ $ lends-front ! tt T.the-row r₁ l₇ 0 r₂ (front-fits r₁ r₂ (is₁ .1 .0 .1) (within-lendable r₂ count e₂)) (room-within r₂ (within-lendable r₂ count e₂)) (λ ν₃₂ δ₃₂. move ! (8 ∷ []) $ hands-shr ! u16 lanes b₀ o₀ $
         move ! (7 ∷ 5 ∷ 2 ∷ 0 ∷ []) $ nothing ! $ adds ! $ adds ! $ adds ! $ adds ! $ passes ! w64 nodes (g-nodes) $ move ! (5 ∷ 8 ∷ 2 ∷ 7 ∷ []) $ nothing ! $ adds ! $ adds ! $ adds ! $ adds ! $
         calls-spec ! fm plan.ended (plan.clauses 𝓤 H A mem run) known-plan (κ₀, (ν₃₂ ∷ [], (κ₁, (ν₃₄ ∷ [], tt)))) (q₀, (fullShare, (q₁, (fullShare, tt)))) tt (nodes, (ref b₀ o₀ γ₀ lanes, (ref l₇ 0 δ₃₂ (take r₂ r₁), (ref b₁ o₁ γ₁ order, (ref b₂ o₂ δ₃₄ table, tt))))) (vint w64 nodes ∷ [], (mv₀ ∷ [], (sliceVal (l₇, 0) r₂ ∷ [], (mv₁ ∷ [], (mv₂ ∷ [], tt))))) tt (id⊢ 𝓤 (emp 𝓤))
-        (λ r ws. Unit {0}) (λ r ws. factI 𝓤 (Unit {0}) _ tt) (and-then ! (load ! (from ! (stop !)) (look ! 42 refl)) (and-then ! (load ! (from ! (stop !)) (look ! 40 refl)) (and-then ! (load ! (from ! (stop !)) (look ! 17 refl)) (and-then ! (load ! (from ! (stop !)) (look ! 36 refl)) (and-then ! (load ! (from ! (stop !)) (look ! 13 refl)) (no-more !)))))) (λ v₃ r₃ ws₃ e₃ is₃.
+        (λ r ws. RecordPlanning (networkOf nodes lanes) (networkOf nodes lanes) (take r₂ r₁) (ws .1 .1 .0) order order table (ws .1 .1 .1 .1 .0) r) (λ r ws. id⊢ 𝓤 _) (and-then ! (load ! (from ! (stop !)) (look ! 42 refl)) (and-then ! (load ! (from ! (stop !)) (look ! 40 refl)) (and-then ! (load ! (from ! (stop !)) (look ! 17 refl)) (and-then ! (load ! (from ! (stop !)) (look ! 36 refl)) (and-then ! (load ! (from ! (stop !)) (look ! 13 refl)) (no-more !)))))) (λ v₃ r₃ ws₃ e₃ is₃.
         parts ! $ parts ! $ parts ! $ parts ! $ drop ! $ move ! (4 ∷ []) $ fsplit ! $ drop ! $ fsplit ! $ drop ! $ parts ! $ fsplit ! $ drop ! $ parts ! $ drop ! $
         let table₃ = ws₃ .1 .1 .1 .1 .0 in
         move ! (2 ∷ 9 ∷ 0 ∷ []) $ unlends-mut ! tt u16 table b₂ o₂ table₃ (λ long-table₃.
@@ -165,7 +170,7 @@ module _ {M : Type 1} (𝓤 : URA M) (H : Heap 𝓤) (A : Atoms 𝓤) (W : Given
         move ! (6 ∷ 7 ∷ []) $ lends-mut ! tt u32 fields b₃ o₃ (λ ν₄₁ δ₄₁.
         nothing ! $ adds ! $ owned ! Records (Is Records) (records-makes 𝓤 H A W) records₃ (only (array-vals (rec .vals) records₃) ∷ []) is-records₃ $ fjoin ! $ move ! (1 ∷ []) $ nothing ! $ adds ! $
         calls-spec ! fm told.ended (told.clauses 𝓤 H A mem run) known-told (ν₄₁ ∷ [], tt) (fullShare, tt) tt (records₃, (ref b₃ o₃ δ₄₁ fields, tt)) (only (array-vals (rec .vals) records₃) ∷ [], (mv₃ ∷ [], tt)) tt (id⊢ 𝓤 (emp 𝓤))
-        (λ r ws. Unit {0}) (λ r ws. factI 𝓤 (Unit {0}) _ tt) (and-then ! (load ! (from ! (stop !)) (look ! 26 refl)) (and-then ! (load ! (from ! (stop !)) (look ! 8 refl)) (no-more !))) (λ v₄ r₄ ws₄ e₄ is₄.
+        (λ r ws. (ws .1 .0) ≡ toldTo records₃ fields) (λ r ws. id⊢ 𝓤 _) (and-then ! (load ! (from ! (stop !)) (look ! 26 refl)) (and-then ! (load ! (from ! (stop !)) (look ! 8 refl)) (no-more !))) (λ v₄ r₄ ws₄ e₄ is₄.
         parts ! $ drop ! $ move ! (1 ∷ []) $ fsplit ! $ drop ! $ parts ! $ drop ! $
         let fields₄ = ws₄ .1 .0 in
         move ! (1 ∷ 2 ∷ 0 ∷ []) $ unlends-mut ! tt u32 fields b₃ o₃ fields₄ (λ long-fields₄.
@@ -173,7 +178,7 @@ module _ {M : Type 1} (𝓤 : URA M) (H : Heap 𝓤) (A : Atoms 𝓤) (W : Given
         land ! (from ! (stop !)) (init ! 12 refl (nothing-lawful 𝓤 H A W .typed tt _ is₄ .0)) $
         assigns ! (of-opd ! (load ! (from ! (stop !)) (look ! 28 refl))) (from ! (stop !)) (init ! 46 refl (EL.lawful E₀.the-type E₀′.the-laws 𝓤 H A W tt .typed r₃ _ is₃ .0)) $
         returns ! (look ! 46 refl) $ frees-all ! 8 (some _ ∷ some _ ∷ some _ ∷ some _ ∷ some _ ∷ some _ ∷ some _ ∷ some _ ∷ some _ ∷ some _ ∷ some _ ∷ some _ ∷ some _ ∷ some _ ∷ some _ ∷ some _ ∷ some _ ∷ some _ ∷ some _ ∷ some _ ∷ []) refl $
-        by ! (exits r₃ v₃ table₃ fields₄ is₃ (long-table₃) (long-fields₄))))))))))))))))))))))))))))))))))
+        by ! (exits r₃ v₃ table₃ fields₄ is₃ (lends (λ rs ls. RecordPlanning (networkOf nodes lanes) (networkOf nodes lanes) rs ls order order table table₃ r₃) count fields fields₄ r₁ r₂ e₁ e₂ (ws₃ .1 .1 .0) e₃ e₄) (long-table₃) (long-fields₄))))))))))))))))))))))))))))))))))
 
 module _ {M : Type 1} (𝓤 : URA M) (H : Heap 𝓤) (A : Atoms 𝓤) (W : Given 𝓤 H A) (mem : Memory → SProp 𝓤) (run : Routine → Fun 𝓤) (𝓣 : Tables 𝓤 H) (known-made : Triple 𝓤 (𝓣 .C #made) (tripleOf 𝓤 H A made.signature (made.spec 𝓤 H A mem run))) (known-within : Triple 𝓤 (𝓣 .C #within) (tripleOf 𝓤 H A within.signature (within.spec 𝓤 H A mem run))) (known-plan : Triple 𝓤 (𝓣 .C #plan) (tripleOf 𝓤 H A plan.signature (plan.spec 𝓤 H A mem run))) (known-told : Triple 𝓤 (𝓣 .C #told) (tripleOf 𝓤 H A told.signature (told.spec 𝓤 H A mem run))) where
   walks : Walks 𝓤 H A f.ended stayed (WpFn 𝓤 H (𝓣 .C) (𝓣 .Λ) code.function) (f.clauses 𝓤 H A mem run)

@@ -2,9 +2,10 @@
 -- that it calls is that each meets its contract. Each reference stays whole between the calls, beside its
 -- token, and the array of records is a local like any other. For a call a reference is lent for a lifetime of
 -- the call's own and comes back; for `read_job` the array is opened, its front is lent, and it is shut again
--- (`Fronts.antt`). Assumes nothing.
+-- (`Fronts.antt`). What the calls say of records, answer and numbers is carried to the exit, where it is the
+-- promise (`Lent.antt`'s `lends`). Assumes nothing.
 use mathlib.Core.Path.{_≡_, refl, ap, _∙_}
-use Prim.Native.Nat.{ℕ, _<_, _≤_, _^_}
+use Prim.Native.Nat.{ℕ, _<_, _^_, min}
 use mathlib.Core.Option.{some}
 use mathlib.Core.List.{List, [], _∷_, _++_}
 use lib.ListN.{length, take, drop as behind}
@@ -18,7 +19,7 @@ use prog.Memory.{Memory}
 use prog.Routine.{Routine}
 use prog.Wp.{Heap, WpFn, Tables}
 use ghost.Atoms.{Atoms}
-use contract.Monad.{Fun, factI}
+use contract.Monad.{Fun}
 use contract.Running.{givenOf, tables, tablesOf}
 use types.Kit.{Given, Item, ‵, _⊛_, ⋆, _$_, _∵_, !, qed, by, move, keep, drop, split, join, rewrite, fsplit, fjoin, suffices, frame, done}
 use types.Part.{whole, sub, look-in, agg}
@@ -43,11 +44,14 @@ use Rattle.records.proofs.Walk.{ref, frees-all, puts}
 use Rattle.records.proofs.Calls.{lends-mut, unlends-mut, shares-mut, unshares-mut, hands-shr, adds, parts, passes, calls-spec}
 use Rattle.records.proofs.Arrays.{array-opens}
 use Rattle.records.proofs.Table.{rec}
+use Rattle.jobs.specs.Reading.{ReadLeft}
+use Rattle.lent.specs.Lent.{madeOf, toldTo, LentReading}
+use Rattle.lent.proofs.Lent.{within-lendable, lends}
 use Rattle.lent.proofs.Fronts.{lends-front, unlends-front, array-shuts-is, Records, records-typed, records-makes, room-within, front-fits}
 use denote.Enum.Laws as EL
-use Rattle.text.specs.declared.reader.Read.{Read}
-use Rattle.text.proofs.reader.Read as E₀
-use Rattle.text.proofs.reader.Read.Laws as E₀′
+use Rattle.reader.specs.declared.Read.{Read}
+use Rattle.reader.proofs.Read as E₀
+use Rattle.reader.proofs.Read.Laws as E₀′
 use Rattle.records.proofs.Record as T
 use Rattle.lent.proofs.made as made
 use Rattle.lent.proofs.made.Symbol as made-def
@@ -107,10 +111,10 @@ module _ {M : Type 1} (𝓤 : URA M) (H : Heap 𝓤) (A : Atoms 𝓤) (W : Given
       ‵ (MutSlice erased κ₂ u16 .own (ref b₂ o₂ γ₂ z-order) (mv₂ ∷ [])) ∷ ‵ (flft κ₂ q₂) ∷
       ‵ (MutSlice erased κ₃ u32 .own (ref b₃ o₃ γ₃ z-fields) (mv₃ ∷ [])) ∷ ‵ (flft κ₃ q₃) ∷ []
 
-  exits : (r : Read) (v : Val) (z-lanes : List ℕ) (z-order : List ℕ) (z-fields : List ℕ) → Is E₀.the-row r (v ∷ []) → length z-lanes ≡ length lanes → length z-order ≡ length order → length z-fields ≡ length fields → ent 𝓤 (⋆ 𝓤 H A (Refs z-lanes z-order z-fields)) (Post v)
-  exits r v z-lanes z-order z-fields is long-lanes long-order long-fields =
+  exits : (r : Read) (v : Val) (z-lanes : List ℕ) (z-order : List ℕ) (z-fields : List ℕ) → Is E₀.the-row r (v ∷ []) → LentReading text text lanes z-lanes count order z-order fields z-fields r → length z-lanes ≡ length lanes → length z-order ≡ length order → length z-fields ≡ length fields → ent 𝓤 (⋆ 𝓤 H A (Refs z-lanes z-order z-fields)) (Post v)
+  exits r v z-lanes z-order z-fields is e long-lanes long-order long-fields =
       qed W (Refs z-lanes z-order z-fields) ∵
-      suffices ! _ (ends-at 𝓤 H A f.ended stayed (f.clauses 𝓤 H A mem run) W (((κ₀, (κ₁, (κ₂, (κ₃, tt)))), (q₀, (q₁, (q₂, (q₃, tt)))), tt, a, at), tt) v r (tt, (z-lanes, (tt, (z-order, (z-fields, tt))))) (tt, (long-lanes, (tt, (long-order, (long-fields, tt)))))) $ says ! long-fields $
+      suffices ! _ (ends-at 𝓤 H A f.ended stayed (f.clauses 𝓤 H A mem run) W (((κ₀, (κ₁, (κ₂, (κ₃, tt)))), (q₀, (q₁, (q₂, (q₃, tt)))), tt, a, at), tt) v r (tt, (z-lanes, (tt, (z-order, (z-fields, tt))))) (tt, (long-lanes, (tt, (long-order, (long-fields, tt)))))) $ says ! e $
       keep ! (7 ∷ 5 ∷ 3 ∷ 1 ∷ 6 ∷ 4 ∷ 2 ∷ []) $ nothing ! $ move ! (1 ∷ 0 ∷ []) $ join ! $ move ! (1 ∷ 0 ∷ []) $ join ! $ move ! (1 ∷ 0 ∷ []) $ join ! $ move ! (1 ∷ 0 ∷ []) $ join ! $ frame ! $
       nothing ! $ adds ! $ adds ! $ nothing ! $ fjoin ! $ adds ! $ nothing ! $ fjoin ! $ frame ! $ owned ! E₀.the-row (Is E₀.the-row) (EL.makes E₀.the-type E₀′.the-plain 𝓤 H A) r (v ∷ []) is $ done !
 
@@ -130,7 +134,7 @@ module _ {M : Type 1} (𝓤 : URA M) (H : Heap 𝓤) (A : Atoms 𝓤) (W : Given
         move ! (6 ∷ 7 ∷ []) $ shares-mut ! tt u32 fields b₃ o₃ (λ ν₁₀ δ₁₀.
         nothing ! $ adds ! $ move ! (1 ∷ []) $ nothing ! $ adds ! $
         calls-spec ! fm made.ended (made.clauses 𝓤 H A mem run) known-made (ν₁₀ ∷ [], tt) (fullShare, tt) tt (ref b₃ o₃ δ₁₀ fields, tt) (mv₃ ∷ [], tt) tt (id⊢ 𝓤 (emp 𝓤))
-        (λ r ws. Unit {0}) (λ r ws. factI 𝓤 (Unit {0}) _ tt) (and-then ! (load ! (from ! (stop !)) (look ! 26 refl)) (no-more !)) (λ v₁ r₁ ws₁ e₁ is₁.
+        (λ r ws. r ≡ madeOf fields) (λ r ws. id⊢ 𝓤 _) (and-then ! (load ! (from ! (stop !)) (look ! 26 refl)) (no-more !)) (λ v₁ r₁ ws₁ e₁ is₁.
         parts ! $ drop ! $ move ! (1 ∷ []) $ drop ! $
         unshares-mut ! tt u32 fields b₃ o₃ $
         move ! (2 ∷ 3 ∷ 4 ∷ 5 ∷ 6 ∷ 7 ∷ 0 ∷ 1 ∷ []) $
@@ -139,7 +143,7 @@ module _ {M : Type 1} (𝓤 : URA M) (H : Heap 𝓤) (A : Atoms 𝓤) (W : Given
         -- `within`
         nothing ! $ passes ! w64 count (g-count) $ nothing ! $
         calls-spec ! fm within.ended (within.clauses 𝓤 H A mem run) known-within tt tt tt (count, tt) (vint w64 count ∷ [], tt) tt (id⊢ 𝓤 (emp 𝓤))
-        (λ r ws. r ≤ 80) (λ r ws. id⊢ 𝓤 _) (and-then ! (load ! (from ! (stop !)) (look ! 43 refl)) (no-more !)) (λ v₂ r₂ ws₂ e₂ is₂.
+        (λ r ws. r ≡ min count 80) (λ r ws. id⊢ 𝓤 _) (and-then ! (load ! (from ! (stop !)) (look ! 43 refl)) (no-more !)) (λ v₂ r₂ ws₂ e₂ is₂.
         drop ! $ drop ! $
         land ! (from ! (stop !)) (init ! 34 refl (uint-lawful 𝓤 H A W w64 .typed r₂ _ is₂ .0)) $ rewrite ! 34 (λ (u : Val). ‵ (fat fullShare (tyInt w64) l₇ 0 u)) (ap only (is₂ .0)) refl $
         assigns ! (addr ! (from ! (fld ! refl (hop ! (look-in ! 44 (sub ! 0 refl (whole !))) (stop !))))) (from ! (stop !)) (init ! 24 refl (tt, tt)) $
@@ -149,10 +153,10 @@ module _ {M : Type 1} (𝓤 : URA M) (H : Heap 𝓤) (A : Atoms 𝓤) (W : Given
         assigns ! (addr ! (from ! (fld ! refl (hop ! (look-in ! 40 (sub ! 0 refl (whole !))) (stop !))))) (from ! (stop !)) (init ! 16 refl (tt, tt)) $
         assigns ! (agg ! (and-then ! (load ! (from ! (stop !)) (look ! 16 refl)) (and-then ! (load ! (from ! (fld ! refl (stop !))) (look-in ! 40 (sub ! 1 refl (whole !)))) (no-more !)))) (from ! (stop !)) (init ! 14 refl (tt, (tt, (record { fits = g-order .0 }, tt)))) $
         -- `read_job`
-        move ! (4 ∷ 5 ∷ []) $ lends-mut ! tt u16 order b₂ o₂ (λ ν₃₃ δ₃₃. move ! (37 ∷ []) $ array-opens ! rec tt 80 r₁ l₆ 0 _ is₁ $ lends-front ! tt T.the-row r₁ l₆ 0 r₂ (front-fits r₁ r₂ (is₁ .1 .0 .1) e₂) (room-within r₂ e₂) (λ ν₃₂ δ₃₂. move ! (8 ∷ 9 ∷ []) $ lends-mut ! tt u16 lanes b₁ o₁ (λ ν₃₁ δ₃₁. move ! (9 ∷ []) $ hands-shr ! u8 text b₀ o₀ $
+        move ! (4 ∷ 5 ∷ []) $ lends-mut ! tt u16 order b₂ o₂ (λ ν₃₃ δ₃₃. move ! (37 ∷ []) $ array-opens ! rec tt 80 r₁ l₆ 0 _ is₁ $ lends-front ! tt T.the-row r₁ l₆ 0 r₂ (front-fits r₁ r₂ (is₁ .1 .0 .1) (within-lendable r₂ count e₂)) (room-within r₂ (within-lendable r₂ count e₂)) (λ ν₃₂ δ₃₂. move ! (8 ∷ 9 ∷ []) $ lends-mut ! tt u16 lanes b₁ o₁ (λ ν₃₁ δ₃₁. move ! (9 ∷ []) $ hands-shr ! u8 text b₀ o₀ $
         move ! (8 ∷ 5 ∷ 2 ∷ 0 ∷ []) $ nothing ! $ adds ! $ adds ! $ adds ! $ adds ! $ move ! (6 ∷ 4 ∷ 2 ∷ 8 ∷ []) $ nothing ! $ adds ! $ adds ! $ adds ! $ adds ! $
         calls-spec ! fm read-job.ended (read-job.clauses 𝓤 H A mem run) known-read-job (κ₀, (ν₃₁ ∷ [], (ν₃₂ ∷ [], (ν₃₃ ∷ [], tt)))) (q₀, (fullShare, (fullShare, (fullShare, tt)))) tt (ref b₀ o₀ γ₀ text, (ref b₁ o₁ δ₃₁ lanes, (ref l₆ 0 δ₃₂ (take r₂ r₁), (ref b₂ o₂ δ₃₃ order, tt)))) (mv₀ ∷ [], (mv₁ ∷ [], (sliceVal (l₆, 0) r₂ ∷ [], (mv₂ ∷ [], tt)))) tt (id⊢ 𝓤 (emp 𝓤))
-        (λ r ws. Unit {0}) (λ r ws. factI 𝓤 (Unit {0}) _ tt) (and-then ! (load ! (from ! (stop !)) (look ! 44 refl)) (and-then ! (load ! (from ! (stop !)) (look ! 21 refl)) (and-then ! (load ! (from ! (stop !)) (look ! 17 refl)) (and-then ! (load ! (from ! (stop !)) (look ! 13 refl)) (no-more !))))) (λ v₃ r₃ ws₃ e₃ is₃.
+        (λ r ws. ReadLeft text text lanes (ws .1 .0) (take r₂ r₁) (ws .1 .1 .0) order (ws .1 .1 .1 .0) r) (λ r ws. id⊢ 𝓤 _) (and-then ! (load ! (from ! (stop !)) (look ! 44 refl)) (and-then ! (load ! (from ! (stop !)) (look ! 21 refl)) (and-then ! (load ! (from ! (stop !)) (look ! 17 refl)) (and-then ! (load ! (from ! (stop !)) (look ! 13 refl)) (no-more !))))) (λ v₃ r₃ ws₃ e₃ is₃.
         parts ! $ parts ! $ parts ! $ parts ! $ drop ! $ move ! (4 ∷ []) $ fsplit ! $ drop ! $ parts ! $ parts ! $ parts ! $ drop ! $
         let order₃ = ws₃ .1 .1 .1 .0 in
         move ! (3 ∷ 10 ∷ 0 ∷ []) $ unlends-mut ! tt u16 order b₂ o₂ order₃ (λ long-order₃.
@@ -169,7 +173,7 @@ module _ {M : Type 1} (𝓤 : URA M) (H : Heap 𝓤) (A : Atoms 𝓤) (W : Given
         move ! (6 ∷ 7 ∷ []) $ lends-mut ! tt u32 fields b₃ o₃ (λ ν₄₁ δ₄₁.
         nothing ! $ adds ! $ owned ! Records (Is Records) (records-makes 𝓤 H A W) records₃ (only (array-vals (rec .vals) records₃) ∷ []) is-records₃ $ fjoin ! $ move ! (1 ∷ []) $ nothing ! $ adds ! $
         calls-spec ! fm told.ended (told.clauses 𝓤 H A mem run) known-told (ν₄₁ ∷ [], tt) (fullShare, tt) tt (records₃, (ref b₃ o₃ δ₄₁ fields, tt)) (only (array-vals (rec .vals) records₃) ∷ [], (mv₃ ∷ [], tt)) tt (id⊢ 𝓤 (emp 𝓤))
-        (λ r ws. Unit {0}) (λ r ws. factI 𝓤 (Unit {0}) _ tt) (and-then ! (load ! (from ! (stop !)) (look ! 30 refl)) (and-then ! (load ! (from ! (stop !)) (look ! 8 refl)) (no-more !))) (λ v₄ r₄ ws₄ e₄ is₄.
+        (λ r ws. (ws .1 .0) ≡ toldTo records₃ fields) (λ r ws. id⊢ 𝓤 _) (and-then ! (load ! (from ! (stop !)) (look ! 30 refl)) (and-then ! (load ! (from ! (stop !)) (look ! 8 refl)) (no-more !))) (λ v₄ r₄ ws₄ e₄ is₄.
         parts ! $ drop ! $ move ! (1 ∷ []) $ fsplit ! $ drop ! $ parts ! $ drop ! $
         let fields₄ = ws₄ .1 .0 in
         move ! (1 ∷ 2 ∷ 0 ∷ []) $ unlends-mut ! tt u32 fields b₃ o₃ fields₄ (λ long-fields₄.
@@ -177,7 +181,7 @@ module _ {M : Type 1} (𝓤 : URA M) (H : Heap 𝓤) (A : Atoms 𝓤) (W : Given
         land ! (from ! (stop !)) (init ! 12 refl (nothing-lawful 𝓤 H A W .typed tt _ is₄ .0)) $
         assigns ! (of-opd ! (load ! (from ! (stop !)) (look ! 32 refl))) (from ! (stop !)) (init ! 48 refl (EL.lawful E₀.the-type E₀′.the-laws 𝓤 H A W tt .typed r₃ _ is₃ .0)) $
         returns ! (look ! 48 refl) $ frees-all ! 8 (some _ ∷ some _ ∷ some _ ∷ some _ ∷ some _ ∷ some _ ∷ some _ ∷ some _ ∷ some _ ∷ some _ ∷ some _ ∷ some _ ∷ some _ ∷ some _ ∷ some _ ∷ some _ ∷ some _ ∷ some _ ∷ some _ ∷ some _ ∷ some _ ∷ []) refl $
-        by ! (exits r₃ v₃ lanes₃ order₃ fields₄ is₃ (long-lanes₃) (long-order₃) (long-fields₄)))))))))))))))))))))))))))))))))))))
+        by ! (exits r₃ v₃ lanes₃ order₃ fields₄ is₃ (lends (λ rs ls. ReadLeft text text lanes lanes₃ rs ls order order₃ r₃) count fields fields₄ r₁ r₂ e₁ e₂ (ws₃ .1 .1 .0) e₃ e₄) (long-lanes₃) (long-order₃) (long-fields₄)))))))))))))))))))))))))))))))))))))
 
 module _ {M : Type 1} (𝓤 : URA M) (H : Heap 𝓤) (A : Atoms 𝓤) (W : Given 𝓤 H A) (mem : Memory → SProp 𝓤) (run : Routine → Fun 𝓤) (𝓣 : Tables 𝓤 H) (known-made : Triple 𝓤 (𝓣 .C #made) (tripleOf 𝓤 H A made.signature (made.spec 𝓤 H A mem run))) (known-within : Triple 𝓤 (𝓣 .C #within) (tripleOf 𝓤 H A within.signature (within.spec 𝓤 H A mem run))) (known-read-job : Triple 𝓤 (𝓣 .C #read-job) (tripleOf 𝓤 H A read-job.signature (read-job.spec 𝓤 H A mem run))) (known-told : Triple 𝓤 (𝓣 .C #told) (tripleOf 𝓤 H A told.signature (told.spec 𝓤 H A mem run))) where
   walks : Walks 𝓤 H A f.ended stayed (WpFn 𝓤 H (𝓣 .C) (𝓣 .Λ) code.function) (f.clauses 𝓤 H A mem run)

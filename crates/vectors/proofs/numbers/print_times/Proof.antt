@@ -1,6 +1,7 @@
 -- `vectors::numbers::print_times` is safe and ends. The loop's invariant: `i` is at most `n`, and `n` at most
 -- the length of each list. The measure is what is left of `n`. Assumes nothing.
 use borrow.Author.Needs.{needs}
+use native.Mathlib.Omega.{arith}
 use Prim.Native.Nat.{_≤_, _-_}
 use lib.ListN.{length}
 use Rattle.vectors.proofs.numbers.print_times.Statement.{statement}
@@ -18,20 +19,26 @@ least-requires c κs = search needs
 loop-holds : tie.Need-loop-holds Inv-loop μ-loop
 loop-holds c = search needs
 
-mul-times : tie.Need-mul-times Inv-loop μ-loop
-mul-times c = search needs
+mul-pair : tie.Need-mul-pair Inv-loop μ-loop
+mul-pair c = search needs
 
-shared-slice-read-times : tie.Need-shared-slice-read-times Inv-loop μ-loop
-shared-slice-read-times c = search needs
+shared-slice-read-pair : tie.Need-shared-slice-read-pair Inv-loop μ-loop
+shared-slice-read-pair c = search needs
 
-mul-times-2 : tie.Need-mul-times-2 Inv-loop μ-loop
-mul-times-2 c = search needs
+cast-pair : tie.Need-cast-pair Inv-loop μ-loop
+cast-pair c = omega (arith, c .shared-slice-known3 .given (c .before .before .loop .i))
 
-shared-slice-read-times-2 : tie.Need-shared-slice-read-times-2 Inv-loop μ-loop
-shared-slice-read-times-2 c = search needs
+mul-pair-2 : tie.Need-mul-pair-2 Inv-loop μ-loop
+mul-pair-2 c = search needs
 
-times-requires : tie.Need-times-requires Inv-loop μ-loop
-times-requires c κs = search needs
+shared-slice-read-pair-2 : tie.Need-shared-slice-read-pair-2 Inv-loop μ-loop
+shared-slice-read-pair-2 c = search needs
+
+cast-pair-2 : tie.Need-cast-pair-2 Inv-loop μ-loop
+cast-pair-2 c = omega (arith, c .shared-slice-known4 .given (c .before .before .before .loop .i))
+
+pair-requires : tie.Need-pair-requires Inv-loop μ-loop
+pair-requires c κs = search needs
 
 add-i : tie.Need-add-i Inv-loop μ-loop
 add-i c = search needs
@@ -53,11 +60,13 @@ print-times-spec =
     μ-loop
     least-requires
     loop-holds
-    mul-times
-    shared-slice-read-times
-    mul-times-2
-    shared-slice-read-times-2
-    times-requires
+    mul-pair
+    shared-slice-read-pair
+    cast-pair
+    mul-pair-2
+    shared-slice-read-pair-2
+    cast-pair-2
+    pair-requires
     add-i
     loop-less
     loop-again

@@ -1,0 +1,2 @@
+-- The laws of the numbers and lists of a payload.
+pub mod Payloads

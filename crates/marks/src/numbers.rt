@@ -1,0 +1,99 @@
+// The questions from numbers, with lent tables full of marks.
+use super::marked::lend_numbers;
+use super::marked::lend_shorts;
+use super::marked::print_numbers;
+use super::marked::print_shorts;
+use batch::payload::behind_lanes;
+use batch::payload::behind_list;
+use batch::payload::lane_room;
+use batch::payload::list_room;
+use batch::payload::loaded_lanes;
+use batch::payload::loaded_list;
+use batch::payload::long_at;
+use batch::payload::rest;
+use batch::payload::short_at;
+use batch::print;
+use path::choose;
+use planner::plan_moves;
+use reader::read_numbers;
+
+pub(crate) fn read(s: &[u8]) {
+    let mut lanes = [7777u16; 8300];
+    let mut moves = [7777u16; 200];
+    let mut order = [7777u16; 100];
+    print::read(read_numbers(
+        rest(s, 6),
+        lend_shorts(&mut lanes, s, 0),
+        lend_shorts(&mut moves, s, 2),
+        lend_shorts(&mut order, s, 4),
+    ));
+    print_shorts(b"lanes", &lanes);
+    print_shorts(b"moves", &moves);
+    print_shorts(b"order", &order);
+}
+
+pub(crate) fn plan(s: &[u8]) {
+    let network = rest(s, 6);
+    let behind = behind_lanes(network);
+    let mut lanes = lane_room();
+    let mut moves = [0u16; 200];
+    let mut order = [0u16; 100];
+    plan_lists(
+        s,
+        loaded_lanes(network, &mut lanes),
+        loaded_list(behind, &mut moves),
+        loaded_list(behind_list(behind), &mut order),
+    );
+}
+
+// The lengths of the tables and the count of nodes stand at the front of the payload.
+fn plan_lists(s: &[u8], lanes: &[u16], moves: &[u16], order: &[u16]) {
+    let mut table = [7777u16; 12400];
+    let mut distances = [7777u16; 100];
+    let mut ticks = [7777u32; 100];
+    print::planned(plan_moves(
+        long_at(s, 6) as usize,
+        lanes,
+        moves,
+        order,
+        lend_shorts(&mut table, s, 0),
+        lend_shorts(&mut distances, s, 2),
+        lend_numbers(&mut ticks, s, 4),
+    ));
+    print_shorts(b"table", &table);
+    print_shorts(b"distances", &distances);
+    print_numbers(b"ticks", &ticks, 0, 100);
+}
+
+pub(crate) fn house(s: &[u8]) {
+    let mut lanes = lane_room();
+    house_list(s, loaded_lanes(rest(s, 6), &mut lanes));
+}
+
+fn house_list(s: &[u8], lanes: &[u16]) {
+    let nodes = long_at(s, 6) as usize;
+    let mut path = [7777u16; 1100];
+    let lent = lend_shorts(&mut path, s, 0);
+    print::housed(path::house(nodes, lanes, short_at(s, 2), short_at(s, 4), lent));
+    print_shorts(b"path", &path);
+}
+
+pub(crate) fn choice(s: &[u8]) {
+    let from = rest(s, 4);
+    let behind = behind_list(from);
+    let mut own_room = list_room();
+    let mut spare_room = list_room();
+    let own = loaded_list(from, &mut own_room);
+    let spare = loaded_list(behind, &mut spare_room);
+    choice_in(s, behind_list(behind), own, spare);
+}
+
+// The choice for the move at the front of the payload, and how long the chosen list is.
+fn choice_in<'a>(s: &[u8], network: &[u8], own: &'a [u16], spare: &'a [u16]) {
+    let nodes = long_at(network, 0) as usize;
+    let mut room = lane_room();
+    let lanes = loaded_lanes(network, &mut room);
+    let chosen = choose(nodes, lanes, short_at(s, 0), short_at(s, 2), own, spare);
+    print::chosen(chosen, own);
+    print::line(b"", chosen.len() as u64);
+}
