@@ -5,6 +5,7 @@
 --     TextSteps          the sections one after the other
 --     Left, Outcomes     what is left in the tables, and the three answers
 --     Unique, Exactly    one outcome; and exactly when
+--     TextBytes          the kinds of an accepted text's bytes
 pub mod Words
 pub mod EntryLines
 pub mod SectionSteps
@@ -13,3 +14,4 @@ pub mod Left
 pub mod Outcomes
 pub mod Unique
 pub mod Exactly
+pub mod TextBytes
