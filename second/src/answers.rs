@@ -32,8 +32,8 @@ fn either<T>(result: Result<T, Refusal>, accepted: impl Fn(T) -> Answer) -> Answ
     }
 }
 
-/// The answer to one job text. Reading gives 1 to 7 with the line; planning
-/// can then only give 8, whose place is turned into the carrier's line.
+/// The answer to one job text. Reading gives 1 to 5 or 7 with the line;
+/// planning can then only give 8, whose place is turned into the carrier's line.
 pub fn answer_to_text(text: &[u8]) -> Answer {
     let planned = text::read(text).and_then(|job| {
         plan(&job).map_err(|refusal| Refusal {

@@ -1,7 +1,8 @@
-// Entries of a sound job text spoiled so that they break a check, one function
-// each. A draft is a text as lines, with the job that it came from, so that a
-// damage can pick a number that is no node or that stands earlier.
-// Nothing here says which refusal comes out.
+// Entries of a sound job text changed so that they break a check, one function
+// each, and some that repeat the ends of an earlier carrier, which breaks none
+// and hides none. A draft is a text as lines, with the job that it came from,
+// so that a damage can pick a number that is no node or that stands earlier.
+// Nothing here says which refusal comes out, or whether one does.
 
 use crate::dice::Dice;
 use crate::job::Job;
@@ -144,26 +145,42 @@ pub const ENTRY_DAMAGES: &[EntryDamage] = &[
         draft.set_move(carrier, end, end)
     },
     |draft, dice| {
+        // An earlier start stands again. Only where it is this carrier's goal
+        // too is there a fault.
         let (carrier, [_, goal], [earlier_start, _]) = draft.some_move(dice);
         draft.set_move(carrier, earlier_start, goal)
     },
     |draft, dice| {
+        // An earlier goal stands again, likewise.
         let (carrier, [start, _], [_, earlier_goal]) = draft.some_move(dice);
         draft.set_move(carrier, start, earlier_goal)
     },
     |draft, dice| {
-        // The same end is no node and stands twice: 4 goes before 5.
+        // A whole move stands again.
+        let (carrier, _, [earlier_start, earlier_goal]) = draft.some_move(dice);
+        draft.set_move(carrier, earlier_start, earlier_goal)
+    },
+    |draft, dice| {
+        // A whole move stands again, and further on a place in the order does.
+        let (carrier, _, [earlier_start, earlier_goal]) = draft.some_move(dice);
+        draft.set_move(carrier, earlier_start, earlier_goal);
+        let place = dice.between(1, draft.carriers() - 1);
+        let entry = draft.job.order[dice.below(place)];
+        draft.set_entry(place, entry.into())
+    },
+    |draft, dice| {
+        // Start and goal are one number, and it is no node: 4 goes before 5.
         let (carrier, _, _) = draft.some_move(dice);
         let end = draft.no_node(dice);
         draft.set_move(carrier, end, end)
     },
     |draft, dice| {
-        // Equal ends that also repeat an earlier start: 5 goes before 6.
+        // Equal ends, at a node where an earlier carrier starts.
         let (carrier, _, [earlier_start, _]) = draft.some_move(dice);
         draft.set_move(carrier, earlier_start, earlier_start)
     },
     |draft, dice| {
-        // One end is no node and the other repeats: 4 goes before 6.
+        // One end is no node, and the other stands at an earlier carrier.
         let (carrier, _, [earlier_start, earlier_goal]) = draft.some_move(dice);
         let end = draft.no_node(dice);
         if dice.once_in(2) {
@@ -173,7 +190,7 @@ pub const ENTRY_DAMAGES: &[EntryDamage] = &[
         }
     },
     |draft, dice| {
-        // Carrier 0 has nobody before it, so only 4 and 5 can strike it.
+        // Carrier 0, which has nobody before it.
         let end = draft.no_node(dice);
         let start = usize::from(draft.job.moves[0].start);
         let goal = dice.pick(&[end, start]);

@@ -1,6 +1,7 @@
 // Ways to spoil a job or a network given as numbers, for the refusals that
 // only planning from numbers can give or whose order differs there: all
-// counts before all entries, and an odd list of lanes.
+// counts before all entries, and an odd list of lanes. Some repeat the ends of
+// another carrier, which is no fault by itself and hides none.
 // Several can strike one job; none of them says which refusal comes out.
 
 use crate::dice::Dice;
@@ -101,13 +102,43 @@ pub const JOB_DAMAGES: &[JobDamage] = &[
         }
     },
     |job, dice| {
+        // An earlier start stands again. Only where it is this carrier's goal
+        // too is there a fault.
         if let Some(carrier) = some_carrier(job, dice) {
             job.moves[carrier].start = job.moves[dice.below(carrier.max(1))].start;
         }
     },
     |job, dice| {
+        // An earlier goal stands again, likewise.
         if let Some(carrier) = some_carrier(job, dice) {
             job.moves[carrier].goal = job.moves[dice.below(carrier.max(1))].goal;
+        }
+    },
+    |job, dice| {
+        // A whole move stands again.
+        if let Some(carrier) = some_carrier(job, dice) {
+            job.moves[carrier] = job.moves[dice.below(carrier.max(1))];
+        }
+    },
+    |job, dice| {
+        // All carriers make one move, save one, whose goal is its start or no
+        // node.
+        if let Some(carrier) = some_carrier(job, dice) {
+            let shared = job.moves[carrier];
+            job.moves.iter_mut().for_each(|asked| *asked = shared);
+            let no_node = no_node(&job.hall, dice);
+            job.moves[carrier].goal = dice.pick(&[shared.start, no_node]);
+        }
+    },
+    |job, dice| {
+        // All carriers make one move, and the last place in the order names
+        // one of them, mostly for the second time.
+        if let Some(carrier) = some_carrier(job, dice) {
+            let shared = job.moves[carrier];
+            job.moves.iter_mut().for_each(|asked| *asked = shared);
+            if let Some(last) = job.order.last_mut() {
+                *last = carrier as u16;
+            }
         }
     },
     |job, dice| {

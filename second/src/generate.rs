@@ -1,6 +1,7 @@
-// A batch: all small networks, the systematic faults, the limits, lent tables
-// of all lengths, and as many random cases as asked for. Random cases take turns through every kind and
-// every damage, so that even a short run has some of each.
+// A batch: all small networks, the systematic faults, trains, the limits, lent
+// tables of all lengths, and as many random cases as asked for. Random cases
+// take turns through every kind and every damage, so that even a short run has
+// some of each.
 
 use crate::batch::Case;
 use crate::damage_entries::{Draft, ENTRY_DAMAGES};
@@ -15,6 +16,7 @@ use crate::lists::{proposal, some_move};
 use crate::small::all_small_cases;
 use crate::systematic::systematic_cases;
 use crate::text;
+use crate::trains::train_cases;
 
 /// Most nodes in a random hall. The limits have cases of their own.
 const MOST_NODES: usize = 64;
@@ -101,7 +103,7 @@ fn some_text(dice: &mut Dice) -> (Vec<u8>, Job) {
 
 /// A small hall with late ticks.
 fn corridor_job(dice: &mut Dice) -> Job {
-    let bays = 2 * dice.between(1, 5);
+    let bays = dice.between(1, 10);
     let corridor = dice.between(1, 30);
     let mut job = through_one_corridor(dice, bays, corridor);
     if dice.once_in(3) {
@@ -204,12 +206,17 @@ fn random_case(dice: &mut Dice, number: usize) -> Case {
     }
 }
 
+pub fn random_cases(dice: &mut Dice, count: usize) -> Vec<Case> {
+    (0..count).map(|number| random_case(dice, number)).collect()
+}
+
 pub fn batch(seed: u64, count: usize) -> Vec<Case> {
     let mut dice = Dice::new(seed);
     let mut cases = all_small_cases();
     cases.extend(systematic_cases(&mut dice));
+    cases.extend(train_cases(&mut dice));
     cases.extend(limit_cases(&mut dice));
     cases.extend(lent_cases(&mut dice));
-    cases.extend((0..count).map(|number| random_case(&mut dice, number)));
+    cases.extend(random_cases(&mut dice, count));
     cases
 }

@@ -4,8 +4,8 @@
 // and dense halls make gap 0 and its exception, parts make "no walk".
 
 use crate::dice::Dice;
-use crate::job::{Hall, Job, Move, MOST_LANES};
-use crate::network::Network;
+use crate::ends::{moves_apart, moves_in};
+use crate::job::{Hall, Job, Move, MOST_CARRIERS, MOST_LANES};
 
 /// A hall from lanes in any order and direction; repeated lanes count once.
 pub fn hall_of(nodes: usize, lanes: Vec<(usize, usize)>) -> Hall {
@@ -136,32 +136,8 @@ pub fn any_hall(dice: &mut Dice, nodes: usize) -> Hall {
     }
 }
 
-/// Moves with distinct starts and distinct goals. If `reachable`, each goal
-/// lies in reach of its start. There may come out fewer than asked for.
-pub fn moves_in(dice: &mut Dice, hall: &Hall, carriers: usize, reachable: bool) -> Vec<Move> {
-    let network = Network::of(hall);
-    let mut starts: Vec<usize> = (0..network.nodes()).collect();
-    let mut goals = starts.clone();
-    dice.shuffle(&mut starts);
-    dice.shuffle(&mut goals);
-    let mut moves = Vec::new();
-    for start in starts {
-        if moves.len() == carriers {
-            break;
-        }
-        let reach = network.distances_from(start);
-        let fits = |&goal: &usize| goal != start && (!reachable || reach[goal].is_some());
-        if let Some(at) = goals.iter().position(fits) {
-            let goal = goals.swap_remove(at);
-            moves.push(Move { start: start as u16, goal: goal as u16 });
-        }
-    }
-    moves
-}
-
-/// A job over a hall, its order by number or shuffled.
-pub fn job_over(dice: &mut Dice, hall: Hall, carriers: usize, reachable: bool) -> Job {
-    let moves = moves_in(dice, &hall, carriers, reachable);
+/// A job with these moves, its order by number or shuffled.
+fn ordered(dice: &mut Dice, hall: Hall, moves: Vec<Move>) -> Job {
     let mut order: Vec<u16> = (0..moves.len() as u16).collect();
     if !dice.once_in(4) {
         dice.shuffle(&mut order);
@@ -169,21 +145,44 @@ pub fn job_over(dice: &mut Dice, hall: Hall, carriers: usize, reachable: bool) -
     Job { hall, moves, order }
 }
 
+/// A job over a hall, whose carriers mostly share ends.
+pub fn job_over(dice: &mut Dice, hall: Hall, carriers: usize, reachable: bool) -> Job {
+    let moves = moves_in(dice, &hall, carriers, reachable);
+    ordered(dice, hall, moves)
+}
+
+/// A job over a hall in which no two carriers share an end.
+pub fn job_apart(dice: &mut Dice, hall: Hall, carriers: usize, reachable: bool) -> Job {
+    let moves = moves_apart(dice, &hall, carriers, reachable);
+    ordered(dice, hall, moves)
+}
+
+/// How many carriers a random job gets: mostly a few, often as many as there
+/// are nodes or more, and often as many as there may be or nearly so.
+fn some_carriers(dice: &mut Dice, nodes: usize) -> usize {
+    match dice.below(6) {
+        0 => dice.between(0, nodes.min(MOST_CARRIERS)),
+        1 => dice.between(nodes.min(MOST_CARRIERS), MOST_CARRIERS),
+        2 => dice.between(MOST_CARRIERS - 2, MOST_CARRIERS),
+        _ => dice.between(0, 8),
+    }
+}
+
 /// A job that every check but perhaps 8 accepts; 8 only if not `reachable`.
 pub fn any_job(dice: &mut Dice, most_nodes: usize, reachable: bool) -> Job {
     let nodes = dice.between(1, most_nodes);
     let hall = any_hall(dice, nodes);
-    let most = if dice.once_in(3) { nodes.min(64) } else { nodes.min(8) };
-    let carriers = dice.between(0, most);
+    let carriers = some_carriers(dice, nodes);
     job_over(dice, hall, carriers, reachable)
 }
 
 /// Bays at each end of one corridor, and carriers that go from end to end and
 /// back in turn, two for each pair of bays. Each has to wait until the one
 /// before has left, so ticks come late; with 32 bays and 960 nodes between
-/// them they come close to page 01's greatest. Carrier numbers are dealt out
-/// at random, so that a number taken for a place shows. The bays at one end
-/// must be even in number, or a start would stand twice.
+/// them they come close to the greatest that can be. Carrier numbers are dealt
+/// out at random, so that a number taken for a place shows. With an even
+/// number of bays at one end no two carriers share an end. With an odd one the
+/// two of a pair of bays go the same way, save one pair, and share both.
 pub fn through_one_corridor(dice: &mut Dice, bays: usize, corridor: usize) -> Job {
     let far_end = bays + corridor;
     let along = (bays + 1..far_end).map(|node| (node - 1, node));
@@ -213,7 +212,7 @@ pub fn parted_job(dice: &mut Dice, most_nodes: usize) -> Job {
         _ => scattered(dice, nodes, nodes * 2 / 3),
     };
     let hall = renumbered(dice, &hall);
-    let carriers = dice.between(1, nodes.min(6));
+    let carriers = dice.between(1, 8);
     job_over(dice, hall, carriers, false)
 }
 
@@ -222,6 +221,9 @@ pub fn parted_job(dice: &mut Dice, most_nodes: usize) -> Job {
 pub fn ample_job(dice: &mut Dice, most_nodes: usize) -> Job {
     let nodes = dice.between(4, most_nodes);
     let hall = joined_hall(dice, nodes);
-    let carriers = dice.between(2, (hall.nodes as usize).min(12));
+    let carriers = match dice.below(8) {
+        0 => dice.between(13, MOST_CARRIERS),
+        _ => dice.between(2, 12),
+    };
     job_over(dice, hall, carriers, true)
 }

@@ -1,10 +1,13 @@
 // What a batch holds: how often each kind of case is accepted and how often
 // it meets each refusal, so that a reader sees at a glance what is missing.
-// Refusal 9 comes only where tables are lent with a length of their own.
+// Refusal 9 comes only where tables are lent with a length of their own, and
+// the column of 6, which is not in use, has zeros alone.
 
 use crate::answers::{answers_to, Answer};
 use crate::batch::{Case, KINDS};
+use crate::job::Move;
 use crate::paths::Choice;
+use crate::text;
 
 #[derive(Default)]
 struct Row {
@@ -26,6 +29,76 @@ struct Extra {
     full_plans: usize,
     bytes: usize,
     longest: usize,
+}
+
+/// Accepted plans with two carriers or more, and what their carriers share.
+#[derive(Default)]
+struct Shared {
+    plans: usize,
+    /// Some two carriers have one start, one goal, or both in common.
+    start: usize,
+    goal: usize,
+    both: usize,
+    /// No two carriers have an end in common.
+    none: usize,
+    more_than_nodes: usize,
+    full: usize,
+}
+
+/// The node count and the moves of an accepted case that is planned.
+fn planned(case: &Case) -> Option<(u32, Vec<Move>)> {
+    match case {
+        Case::Plan { text } => text::read(text).ok().map(|job| (job.hall.nodes, job.moves)),
+        Case::PlanNumbers { job } => Some((job.hall.nodes, job.moves.clone())),
+        Case::PlanRecords { job, .. } => {
+            Some((job.hall.nodes, job.records.iter().map(|record| record.asked).collect()))
+        }
+        Case::PlanLists { hall, moves, .. } => {
+            let pairs = moves.chunks_exact(2).map(|two| Move { start: two[0], goal: two[1] });
+            Some((hall.nodes, pairs.collect()))
+        }
+        _ => None,
+    }
+}
+
+/// Whether some number stands twice.
+fn repeats<T: Ord>(mut numbers: Vec<T>) -> bool {
+    numbers.sort_unstable();
+    numbers.windows(2).any(|two| two[0] == two[1])
+}
+
+impl Shared {
+    fn note(&mut self, case: &Case) {
+        let (nodes, moves) = match planned(case) {
+            Some((nodes, moves)) if moves.len() > 1 => (nodes, moves),
+            _ => return,
+        };
+        let start = repeats(moves.iter().map(|asked| asked.start).collect());
+        let goal = repeats(moves.iter().map(|asked| asked.goal).collect());
+        self.plans += 1;
+        self.start += usize::from(start);
+        self.goal += usize::from(goal);
+        let both = repeats(moves.iter().map(|asked| (asked.start, asked.goal)).collect());
+        self.both += usize::from(both);
+        self.none += usize::from(!start && !goal);
+        self.more_than_nodes += usize::from(moves.len() > nodes as usize);
+        self.full += usize::from(moves.len() == 64);
+    }
+
+    fn printed(&self) -> String {
+        format!(
+            "\naccepted plans of two carriers or more: {}; some two have one start in {}, one goal \
+             in {}, both in {}; no end is shared in {}\
+             \nof them with more carriers than nodes: {}, with 64 carriers: {}",
+            self.plans,
+            self.start,
+            self.goal,
+            self.both,
+            self.none,
+            self.more_than_nodes,
+            self.full
+        )
+    }
 }
 
 impl Extra {
@@ -51,6 +124,7 @@ impl Extra {
 pub fn histogram(cases: &[Case]) -> String {
     let mut rows: Vec<Row> = KINDS.iter().map(|_| Row::default()).collect();
     let mut extra = Extra::default();
+    let mut shared = Shared::default();
     for case in cases {
         let length = case.payload().len();
         extra.bytes += length + 5;
@@ -61,15 +135,18 @@ pub fn histogram(cases: &[Case]) -> String {
         for answer in answers_to(case) {
             match answer.refusal() {
                 Some(refusal) => rows[place].refused[refusal.number as usize] += 1,
-                None => rows[place].accepted += 1,
+                None => {
+                    rows[place].accepted += 1;
+                    shared.note(case);
+                }
             }
             extra.note(case, &answer);
         }
     }
-    printed(&rows, &extra)
+    printed(&rows, &extra, &shared)
 }
 
-fn printed(rows: &[Row], extra: &Extra) -> String {
+fn printed(rows: &[Row], extra: &Extra, shared: &Shared) -> String {
     let mut out = "kind   cases accepted".to_string();
     (1..=11).for_each(|number| out += &format!("{:>7}", number));
     for (kind, row) in KINDS.iter().zip(rows) {
@@ -78,6 +155,7 @@ fn printed(rows: &[Row], extra: &Extra) -> String {
     }
     out += &format!("\nrefusal 2 from numbers, by place: {:?}", extra.places);
     out += &format!("\nchoices: {} own, {} spare, {} none", extra.own, extra.spare, extra.neither);
+    out += &shared.printed();
     out + &format!(
         "\nlarge cases (over 8,000 bytes): {}, plans of 64 carriers among them: {}\
          \nbytes: {} in all, {} in the longest payload\n",

@@ -1,4 +1,6 @@
-// A job as plain numbers, with page 01's checks 2 to 7 on it.
+// A job as plain numbers, with the checks 2, 3, 4, 5 and 7 of the rules on it.
+// The number 6 is not in use: any number of carriers may have one start, one
+// goal or both.
 // Lanes stand as a flat list, two numbers a lane, because from numbers the
 // list may have an odd length and that is a refusal of its own.
 // Each single check is one small function, so that reading a text and
@@ -8,7 +10,7 @@ pub const MOST_NODES: u32 = 1024;
 pub const MOST_LANES: usize = 4096;
 pub const MOST_CARRIERS: usize = 64;
 
-/// A refusal: page 01's number, and the line (of a text) or the place (from
+/// A refusal: its number in the rules, and the line (of a text) or the place (from
 /// numbers) that goes with it.
 #[derive(Clone, Copy, Debug, PartialEq, Eq)]
 pub struct Refusal {
@@ -55,16 +57,13 @@ pub fn lane_is_faulty(nodes: u32, before: Option<(u16, u16)>, lane: (u16, u16)) 
     no_node || first >= second || not_rising
 }
 
-/// Checks 4, 5 and 6 for one move and the moves before it, in number order.
-pub fn move_fault(nodes: u32, earlier: &[Move], asked: Move) -> Option<u8> {
+/// Checks 4 and 5 for one move, in that order. Other moves play no part.
+pub fn move_fault(nodes: u32, asked: Move) -> Option<u8> {
     if u32::from(asked.start) >= nodes || u32::from(asked.goal) >= nodes {
         return Some(4);
     }
     if asked.start == asked.goal {
         return Some(5);
-    }
-    if earlier.iter().any(|other| other.start == asked.start || other.goal == asked.goal) {
-        return Some(6);
     }
     None
 }
@@ -106,7 +105,7 @@ impl Hall {
     pub fn check_with_move(&self, asked: Move) -> Result<(), Refusal> {
         self.check_counts()?;
         self.check_lanes()?;
-        match move_fault(self.nodes, &[], asked) {
+        match move_fault(self.nodes, asked) {
             Some(number) => refuse(number, 0),
             None => Ok(()),
         }
@@ -114,7 +113,7 @@ impl Hall {
 }
 
 impl Job {
-    /// Checks 2 to 7 from numbers: all counts come before all entries.
+    /// Checks 2 to 5 and 7 from numbers: all counts come before all entries.
     pub fn check(&self) -> Result<(), Refusal> {
         self.hall.check_counts()?;
         if self.moves.len() > MOST_CARRIERS {
@@ -125,7 +124,7 @@ impl Job {
         }
         self.hall.check_lanes()?;
         for (carrier, &asked) in self.moves.iter().enumerate() {
-            if let Some(number) = move_fault(self.hall.nodes, &self.moves[..carrier], asked) {
+            if let Some(number) = move_fault(self.hall.nodes, asked) {
                 return refuse(number, carrier);
             }
         }

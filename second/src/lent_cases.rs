@@ -6,7 +6,9 @@
 use crate::batch::{Case, Recorded};
 use crate::damage_numbers::{damaged_job, HALL_DAMAGES, JOB_DAMAGES};
 use crate::dice::Dice;
-use crate::halls::{ample_job, any_hall, any_job, grid, job_over, line, parted_job, scattered};
+use crate::halls::{
+    ample_job, any_hall, any_job, grid, job_apart, job_over, line, parted_job, scattered,
+};
 use crate::job::{Hall, Job, Move};
 use crate::lent::{
     Record, BYTE_PLACES, LANE_PLACES, LEAST_BYTES, LEAST_LANES, LEAST_MOVES, LEAST_ORDER,
@@ -71,7 +73,7 @@ fn texts(dice: &mut Dice) -> Vec<Vec<u8>> {
     let full = scattered(dice, 1024, 4096);
     let mut texts: Vec<Vec<u8>> =
         page::cases().iter().map(|(_, job, _)| text::write(job)).collect();
-    texts.push(text::write(&job_over(dice, grid(64, 8), 64, true)));
+    texts.push(text::write(&job_apart(dice, grid(64, 8), 64, true)));
     texts.push(text::write(&job_over(dice, full, 64, true)));
     for spoiled in [
         ("NODES 5", "NODES 05"),
@@ -85,6 +87,7 @@ fn texts(dice: &mut Dice) -> Vec<Vec<u8>> {
         ("3 4\nC", "3 5\nC"),
         ("4 0\n2 1", "4 5\n2 1"),
         ("4 0\n2 1", "4 0\n2 2"),
+        // A goal stands twice, which is no fault.
         ("4 0\n2 1", "4 0\n2 0"),
         ("0\n1\n2\n", "0\n1\n3\n"),
         ("0\n1\n2\n", "0\n1\n1\n"),
@@ -129,12 +132,13 @@ fn moves_of(job: &Job) -> Vec<u16> {
     job.moves.iter().flat_map(|asked| [asked.start, asked.goal]).collect()
 }
 
-/// Jobs from numbers: page 01's, full ones, one for each damage, and more
-/// records than a job may have.
+/// Jobs from numbers: those of the rules, full ones, one for each damage, and
+/// more records than a job may have.
 fn jobs(dice: &mut Dice) -> Vec<Job> {
     let mut jobs: Vec<Job> = page::cases().into_iter().map(|(_, job, _)| job).collect();
+    jobs.extend(page::shared_cases().into_iter().map(|(job, _, _)| job));
     jobs.push(page::printed_job_reversed());
-    jobs.push(job_over(dice, grid(256, 16), 64, true));
+    jobs.push(job_apart(dice, grid(256, 16), 64, true));
     jobs.push(job_over(dice, line(1024), 5, true));
     for damage in HALL_DAMAGES {
         let mut job = ample_job(dice, 16);

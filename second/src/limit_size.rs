@@ -1,10 +1,10 @@
 // The limit-size jobs of the benchmark, by name: 1,024 nodes and 64 carriers
-// each. A batch repeats one of them, so that its time is that of planning and
-// not of starting a program.
+// each, and no end is shared. A batch repeats one of them, so that its time is
+// that of planning and not of starting a program.
 
 use crate::batch::Case;
 use crate::dice::Dice;
-use crate::halls::{grid, job_over, line, renumbered, scattered};
+use crate::halls::{grid, job_apart, line, renumbered, scattered};
 use crate::text;
 
 pub const NAMES: [&str; 4] = ["line", "grid", "random", "renumbered"];
@@ -19,6 +19,6 @@ pub fn batch(name: &str, count: usize) -> Option<Vec<Case>> {
         "renumbered" => renumbered(&mut dice, &line(1024)),
         _ => return None,
     };
-    let text = text::write(&job_over(&mut dice, hall, 64, true));
+    let text = text::write(&job_apart(&mut dice, hall, 64, true));
     Some((0..count).map(|_| Case::Plan { text: text.clone() }).collect())
 }

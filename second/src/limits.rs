@@ -1,18 +1,19 @@
-// Cases at page 01's limits (1,024 nodes, 4,096 lanes, 64 carriers) and one
+// Cases at the limits of the rules (1,024 nodes, 4,096 lanes, 64 carriers) and one
 // step past them, and texts longer than any that can be accepted.
 // They are few, because a machine that emulates another takes long over each.
 
 use crate::batch::Case;
 use crate::dice::Dice;
 use crate::halls::{
-    aisles, complete, grid, hall_of, job_over, line, renumbered, ring, scattered, star,
+    aisles, complete, grid, hall_of, job_apart, job_over, line, renumbered, ring, scattered, star,
     through_one_corridor, tree, two_parts, two_sided,
 };
 use crate::job::{Hall, Job, Move};
 use crate::lists::proposal;
 use crate::text;
 
-/// Moves end to end and back in turn, for the latest ticks on a long line.
+/// Moves end to end and back in turn, for late ticks on a long line; the ends
+/// move inwards, so that no two carriers share one.
 fn to_and_fro(hall: Hall, carriers: usize) -> Job {
     let last = hall.nodes as usize - 1;
     let one_move = |carrier: usize| {
@@ -43,7 +44,8 @@ fn long_numbers() -> Hall {
     hall_of(1024, rising.into_iter().rev().take(4096).collect())
 }
 
-/// The accepted jobs at full size, each of its own shape.
+/// The accepted jobs at full size, of many shapes: each shape once with no end
+/// shared and once with ends dealt by dice.
 fn full_jobs(dice: &mut Dice) -> Vec<Job> {
     let shuffled_line = renumbered(dice, &line(1024));
     let random_tree = tree(dice, 1024);
@@ -67,7 +69,10 @@ fn full_jobs(dice: &mut Dice) -> Vec<Job> {
     ];
     let mut jobs =
         vec![to_and_fro(line(1024), 64), through_one_corridor(dice, 32, 960), across_a_ring(dice)];
-    jobs.extend(halls.into_iter().map(|hall| job_over(dice, hall, 64, true)));
+    for hall in halls {
+        jobs.push(job_apart(dice, hall.clone(), 64, true));
+        jobs.push(job_over(dice, hall, 64, true));
+    }
     jobs
 }
 
@@ -86,7 +91,8 @@ fn plan_case(text: Vec<u8>) -> Case {
     Case::Plan { text }
 }
 
-/// Full size with one fault near the end, where a reader has done all work.
+/// Full size with one fault near the end, where a reader has done all work. A
+/// move that stands twice is no fault, and does not hide the one behind it.
 fn spoiled_at_the_end(dice: &mut Dice) -> Vec<Case> {
     let job = full_random(dice, 4096, 64);
     let sound = text::write(&job);
@@ -106,7 +112,12 @@ fn spoiled_at_the_end(dice: &mut Dice) -> Vec<Case> {
         plan_case(lost_line),
         spoil(|job| job.order[63] = 64),
         spoil(|job| job.order[63] = job.order[0]),
-        spoil(|job| job.moves[63].goal = job.moves[62].goal),
+        spoil(|job| job.moves[63] = job.moves[62]),
+        spoil(|job| {
+            job.moves[63] = job.moves[62];
+            job.order[63] = job.order[62];
+        }),
+        spoil(|job| job.moves[63].goal = job.moves[63].start),
         spoil(|job| job.moves[63].goal = 1024),
         spoil(|job| job.hall.lane_numbers[8191] = 1024),
         spoil(|job| job.hall.lane_numbers.swap(8190, 8191)),

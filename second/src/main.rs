@@ -1,8 +1,8 @@
-// The second planner. It is written from page 01 of the request and from
+// The second planner. It is written from the rules (docs/RULES.md) and from
 // nothing else, so that a slip in the proved planner is not repeated here.
 // It shares with the proved planner: nothing. No source, no table, no
-// definition and no language; only page 01 and the batch format are common.
-// It claims no proof. Where the two differ, page 01 decides which is wrong.
+// definition and no language; only the rules and the batch format are common.
+// It claims no proof. Where the two differ, the rules decide which is wrong.
 
 mod answers;
 mod batch;
@@ -11,6 +11,7 @@ mod damage_entries;
 mod damage_form;
 mod damage_numbers;
 mod dice;
+mod ends;
 mod generate;
 mod halls;
 mod histogram;
@@ -31,10 +32,12 @@ mod safe;
 mod selftest;
 mod selftest_lent;
 mod selftest_refusals;
+mod selftest_shared;
 mod shortest;
 mod small;
 mod systematic;
 mod text;
+mod trains;
 
 use std::io::{self, Read, Write};
 use std::process::ExitCode;
@@ -49,7 +52,7 @@ const USAGE: &str = "usage:
   second compare FILE ANSWERS      hold another program's answers to these
   second show FILE CASE             write the payload of one case
   second texts FOLDER               write texts for the program, a file each
-  second selftest                   check the cases of page 01
+  second selftest                   check the cases of the rules
 ";
 
 fn print(bytes: &[u8]) -> Result<(), String> {

@@ -1,6 +1,7 @@
-// The five errors that page 01 says come easily, each made on purpose, so
-// that the selftest can show that page 01's cases tell them from the rule.
-// Nothing else uses this file.
+// The five errors that page 01 says come easily, and one that comes easily
+// where carriers share a lift, each made on purpose, so that the selftest can
+// show that the cases of the rules tell them from the rule. Nothing else uses
+// this file.
 
 use crate::job::Job;
 use crate::rule::{Distances, Pair};
@@ -84,5 +85,16 @@ pub fn no_walk_as_distance(job: &Job) -> Vec<i64> {
     }
     first_ticks(job, |earlier, later, placed, tick| {
         Pair::of(&distances, earlier, later).map_or(true, |pair| pair.permits(tick - placed))
+    })
+}
+
+/// The rule, but a distance of 0 between two starts is taken for "no walk", as
+/// by one who fills his table with zeros. Two carriers then leave one lift at
+/// one tick.
+pub fn zero_as_no_walk(job: &Job) -> Vec<i64> {
+    let distances = Distances::of(job);
+    first_ticks(job, |earlier, later, placed, tick| {
+        distances.start_to_start[earlier][later] == Some(0)
+            || Pair::of(&distances, earlier, later).map_or(true, |pair| pair.permits(tick - placed))
     })
 }

@@ -1,5 +1,6 @@
 // The cases P1 to P11 of page 01 as jobs, with the ticks or the refusal that
-// the page gives. The selftest plans them, and every batch holds them.
+// the page gives, and the cases of carriers that share an end (rule 11.14).
+// The selftest plans them, and every batch holds them.
 
 use crate::halls::line;
 use crate::job::{refuse, Hall, Job, Move, Refusal};
@@ -62,5 +63,24 @@ pub fn cases() -> Vec<Case> {
         ("P9", printed_job_reversed(), Ok(vec![5, 0, 0])),
         ("P10", two_lanes_apart(), Ok(vec![0, 0])),
         ("P11", goal_out_of_reach(), refuse(8, 0)),
+    ]
+}
+
+/// Three carriers from one lift to one chute on a line of four nodes.
+pub fn train() -> Job {
+    job(line(4), &[(0, 3), (0, 3), (0, 3)])
+}
+
+/// Carriers that share an end, with their ticks and the cost.
+pub fn shared_cases() -> Vec<(Job, Vec<i64>, i64)> {
+    let mut last_first = train();
+    last_first.order = vec![2, 0, 1];
+    vec![
+        (train(), vec![0, 1, 2], 12),
+        (last_first, vec![1, 2, 0], 12),
+        (job(line(4), &[(1, 0), (1, 3)]), vec![0, 1], 4),
+        (job(line(4), &[(0, 3), (2, 3)]), vec![0, 0], 4),
+        (job(line(4), &[(0, 1), (2, 1)]), vec![0, 1], 3),
+        (job(line(5), &[(0, 4), (0, 4), (4, 0)]), vec![0, 1, 6], 19),
     ]
 }

@@ -1,7 +1,7 @@
 // The plan of a job: carriers get their ticks in order, each the smallest
 // tick from 0 up that the rule permits against every carrier placed before.
 // The search tries tick after tick and asks the rule about each earlier
-// carrier anew. This is the page's own sentence, and quick enough.
+// carrier anew. This is the rules' own sentence, and quick enough.
 
 use crate::job::{Job, Refusal};
 use crate::rule::{Distances, Pair};
@@ -23,7 +23,7 @@ impl Plan {
     }
 }
 
-/// The plan of a job from numbers, or refusal 2 to 8 with its place.
+/// The plan of a job from numbers, or refusal 2 to 5, 7 or 8 with its place.
 pub fn plan(job: &Job) -> Result<Plan, Refusal> {
     job.check()?;
     let distances = Distances::of(job);

@@ -1,6 +1,6 @@
 // Texts for the program itself, of all lengths up to the longest that can be
-// accepted and beyond. Page 01's bound of 42,000 bytes is met by no text: the
-// longest accepted one has 37,925. Of each length there is a sound text, one
+// accepted and beyond. The bound of 42,000 bytes is met by no text: the
+// longest accepted one has 38,005. Of each length there is a sound text, one
 // that lacks its last byte, one with a byte more, and one with a fault in its
 // last line, so that a program that reads less than it must is found out.
 
@@ -45,17 +45,16 @@ fn sound_of(bytes: usize) -> Vec<u8> {
 }
 
 /// The longest text that is accepted: as many lanes as there may be between
-/// nodes of four digits, the others from three digits to four, 64 moves with
-/// as many nodes of four digits as there are, and 64 places.
+/// nodes of four digits, the others from three digits to four, 64 moves between
+/// nodes of four digits, which share their ends, and 64 places.
 fn longest() -> Vec<u8> {
     let high = (1000..1024).flat_map(|lower| (lower + 1..1024).map(move |higher| (lower, higher)));
     let low = (100..1000).flat_map(|lower| (1000..1024).map(move |higher| (lower, higher)));
     let lanes: Vec<(usize, usize)> = high.chain(low).take(4096).collect();
-    let around = |node: u16, by: u16| 1000 + (node + by) % 24;
-    let mut moves: Vec<Move> =
-        (0..24).map(|node| Move { start: around(node, 0), goal: around(node, 1) }).collect();
-    moves.extend((0..40).map(|node| Move { start: 100 + node, goal: 101 + node }));
-    text::write(&job_over(hall_of(1024, lanes), moves))
+    let around = |node: u16| 1000 + node % 24;
+    let one =
+        |carrier: u16| Move { start: around(carrier), goal: around(carrier / 24 + carrier + 1) };
+    text::write(&job_over(hall_of(1024, lanes), (0..64).map(one).collect()))
 }
 
 /// A sound text and the same with its end spoiled.

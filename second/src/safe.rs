@@ -1,8 +1,9 @@
-// The check of plans of small halls against what page 01 wants of them, not
+// The check of plans of small halls against what the rules want of them, not
 // against the way in which they were found. It takes the ticks from the print.
 // Every choice of shortest paths of each pair of carriers is tried; where a
 // pair has too many, it counts as skipped and is judged from distances alone.
 // Forbidden differences are worked out as stretches here, not tick by tick.
+// What holds of carriers that share an end is checked in halls of any size.
 
 use crate::answers::answer_to_text;
 use crate::batch::Case;
@@ -22,6 +23,11 @@ const MOST_PATH_PAIRS: u64 = 2_000;
 pub struct Tally {
     jobs: u64,
     pairs: u64,
+    /// Pairs with one start or one goal, and jobs of one start alone.
+    sharing: u64,
+    rows: u64,
+    /// Jobs in larger halls, of which only shared ends are checked.
+    large: u64,
     tried: u64,
     skipped: u64,
     pub faults: u64,
@@ -30,8 +36,16 @@ pub struct Tally {
 impl Tally {
     pub fn printed(&self) -> String {
         format!(
-            "safe: {} jobs, {} pairs of carriers, {} path pairs tried, {} skipped, {} faults\n",
-            self.jobs, self.pairs, self.tried, self.skipped, self.faults
+            "safe: {} jobs, {} pairs of carriers, {} path pairs tried, {} skipped; in {} larger \
+             jobs shared ends alone; {} pairs share an end, {} jobs have one start; {} faults\n",
+            self.jobs,
+            self.pairs,
+            self.tried,
+            self.skipped,
+            self.large,
+            self.sharing,
+            self.rows,
+            self.faults
         )
     }
 
@@ -91,11 +105,38 @@ fn forbidden(table: &AllDistances, job: &Job, earlier: usize, later: usize) -> O
     }
 }
 
+/// Carriers with one start have start ticks that differ, and carriers with one
+/// goal have goal ticks that differ. If all have one start, the carrier at
+/// place p starts at tick p.
+fn check_shared_ends(tally: &mut Tally, printed: &Printed, job: &Job) -> Result<(), &'static str> {
+    for (second, asked) in job.moves.iter().enumerate() {
+        for (first, other) in job.moves[..second].iter().enumerate() {
+            let ([start_tick, _, goal_tick], [other_start_tick, _, other_goal_tick]) =
+                (printed.records[second], printed.records[first]);
+            let (one_start, one_goal) = (asked.start == other.start, asked.goal == other.goal);
+            tally.sharing += u64::from(one_start || one_goal);
+            if one_start && start_tick == other_start_tick {
+                return Err("two carriers leave one start at one tick");
+            }
+            if one_goal && goal_tick == other_goal_tick {
+                return Err("two carriers reach one goal at one tick");
+            }
+        }
+    }
+    if job.moves.len() < 2 || job.moves.iter().any(|asked| asked.start != job.moves[0].start) {
+        return Ok(());
+    }
+    tally.rows += 1;
+    for (place, &carrier) in job.order.iter().enumerate() {
+        if printed.records[usize::from(carrier)][0] != place as i64 {
+            return Err("of carriers with one start one does not go at the tick of its place");
+        }
+    }
+    Ok(())
+}
+
 /// The printed numbers agree with the distances and with each other.
 fn check_print(printed: &Printed, table: &AllDistances, job: &Job) -> Result<(), &'static str> {
-    if printed.records.len() != job.moves.len() {
-        return Err("the print has another number of carriers");
-    }
     for (asked, [tick, distance, goal_tick]) in job.moves.iter().zip(&printed.records) {
         if table[usize::from(asked.start)][usize::from(asked.goal)] != Some(*distance) {
             return Err("a printed distance is not the distance");
@@ -184,33 +225,41 @@ fn check_paths(tally: &mut Tally, case: usize, printed: &Printed, table: &AllDis
     }
 }
 
-/// Checks all accepted `P` cases with small halls.
+/// Checks one text, if it is accepted.
+fn check_text(tally: &mut Tally, number: usize, source: &[u8]) {
+    let print = answer_to_text(source).printed();
+    let job = match text::read(source) {
+        Ok(job) if !print.starts_with("REFUSED") => job,
+        _ => return,
+    };
+    let of_the_job = |printed: &Printed| printed.records.len() == job.moves.len();
+    let printed = match read_print(&print).filter(of_the_job) {
+        Some(printed) => printed,
+        None => return tally.fault(number, "the print has not the form of a plan of the job"),
+    };
+    if let Err(what) = check_shared_ends(tally, &printed, &job) {
+        return tally.fault(number, what);
+    }
+    if job.hall.nodes > SMALL_HALL {
+        tally.large += 1;
+        return;
+    }
+    tally.jobs += 1;
+    let table = all_distances(&job.hall);
+    let checked =
+        check_print(&printed, &table, &job).and_then(|()| check_ticks(&printed, &table, &job));
+    match checked {
+        Err(what) => tally.fault(number, what),
+        Ok(()) => check_paths(tally, number, &printed, &table, &job),
+    }
+}
+
+/// Checks all accepted `P` cases.
 pub fn check(cases: &[Case]) -> Tally {
     let mut tally = Tally::default();
     for (number, case) in cases.iter().enumerate() {
-        let source = match case {
-            Case::Plan { text } => text,
-            _ => continue,
-        };
-        let print = answer_to_text(source).printed();
-        let job = match text::read(source) {
-            Ok(job) if job.hall.nodes <= SMALL_HALL && !print.starts_with("REFUSED") => job,
-            _ => continue,
-        };
-        tally.jobs += 1;
-        let table = all_distances(&job.hall);
-        let printed = match read_print(&print) {
-            Some(printed) => printed,
-            None => {
-                tally.fault(number, "the print has not the form of a plan");
-                continue;
-            }
-        };
-        let checked =
-            check_print(&printed, &table, &job).and_then(|()| check_ticks(&printed, &table, &job));
-        match checked {
-            Err(what) => tally.fault(number, what),
-            Ok(()) => check_paths(&mut tally, number, &printed, &table, &job),
+        if let Case::Plan { text } = case {
+            check_text(&mut tally, number, text);
         }
     }
     tally

@@ -1,7 +1,8 @@
 // The cases of page 01 with the answers that it gives, and the rule and the
 // limits by hand. The five errors that come easily are made on purpose. Four
 // must give the wrong tick that page 01 foretells; the fifth, for which it
-// foretells none, must differ from the rule on P10.
+// foretells none, must differ from the rule on P10. A sixth, of carriers that
+// share a lift, must differ from the rule on a train.
 
 use crate::answers::answer_to_text;
 use crate::halls::{complete, line};
@@ -11,6 +12,7 @@ use crate::plan::plan;
 use crate::rule::Pair;
 use crate::selftest_lent;
 use crate::selftest_refusals;
+use crate::selftest_shared;
 use crate::systematic::PRINTED_JOB;
 use crate::text;
 
@@ -53,6 +55,7 @@ fn easy_errors(checks: &mut Checks) {
     checks.same("parity dropped", mistakes::parity_dropped(&page::all_six_lanes()), vec![0, 1]);
     let apart = page::two_lanes_apart();
     checks.same("no walk as a distance", mistakes::no_walk_as_distance(&apart), vec![0, 3]);
+    checks.same("zero as no walk", mistakes::zero_as_no_walk(&page::train()), vec![0, 0, 0]);
 }
 
 /// Which of the differences -2 to 2 the rule forbids, by distance between the
@@ -124,6 +127,7 @@ pub fn run() -> (String, bool) {
     selftest_refusals::refusals_of_numbers(&mut checks);
     selftest_refusals::paths(&mut checks);
     selftest_lent::run(&mut checks);
+    selftest_shared::run(&mut checks);
     let mut report = checks.failures.join("\n");
     if !report.is_empty() {
         report.push('\n');

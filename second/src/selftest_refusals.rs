@@ -1,7 +1,7 @@
 // The refusals of texts and from numbers, and the answers about paths, that
-// follow from page 01's sentences: which line decides, what goes first within
+// follow from the rules' sentences: which line decides, what goes first within
 // a line, and which check goes first from numbers. Each answer is worked out
-// by hand from the page.
+// by hand from the rules.
 
 use crate::job::{Job, Move, Refusal};
 use crate::page::{hall, job, printed_job};
@@ -50,8 +50,13 @@ pub fn refusals_of_texts(checks: &mut Checks) {
         (head, "CARRIERS 1\n4 4\n", "4 6"),
         (head, "CARRIERS 1\n0 0\n", "5 6"),
         (head, "CARRIERS 1\n0 00\n", "1 6"),
-        (head, "CARRIERS 2\n0 1\n0 2\n", "6 7"),
-        (head, "CARRIERS 2\n0 1\n2 1\n", "6 7"),
+        // An end that stands twice is no fault, and hides none.
+        (head, "CARRIERS 2\n0 1\n0 2\n", "1 8"),
+        (head, "CARRIERS 2\n0 1\n2 1\n", "1 8"),
+        (head, "CARRIERS 2\n0 1\n0 1\nORDER 3\n", "2 8"),
+        (head, "CARRIERS 2\n0 1\n0 1\nORDER 2\n1\n1\n", "7 10"),
+        (head, "CARRIERS 3\n0 1\n0 1\n1 1\n", "5 8"),
+        (head, "CARRIERS 3\n0 1\n0 1\n4 1\n", "4 8"),
         (head, "CARRIERS 2\n0 1\n0 0\n", "5 7"),
         (head, "CARRIERS 2\n0 1\n0 4\n", "4 7"),
         (head, "CARRIERS 2\n0 1\n", "1 7"),
@@ -82,8 +87,9 @@ pub fn refusals_of_texts(checks: &mut Checks) {
 pub fn refusals_of_numbers(checks: &mut Checks) {
     let changes: &[(&str, fn(&mut Job), u8, usize)] = &[
         ("8", |job| job.hall.lane_numbers.truncate(6), 8, 0),
+        ("8, a start twice", |job| job.moves[2].start = 0, 8, 0),
         ("7", |job| job.order[2] = 0, 7, 2),
-        ("6", |job| job.moves[2].goal = 0, 6, 2),
+        ("7, a goal twice", |job| job.moves[2].goal = 4, 7, 2),
         ("5", |job| job.moves[1].goal = 4, 5, 1),
         ("4", |job| job.moves[0].start = 5, 4, 0),
         ("3", |job| job.hall.lane_numbers[4] = 0, 3, 2),

@@ -1,11 +1,14 @@
 // All networks of one to four nodes, every subset of the possible lanes, each
 // with every pair of starts and goals in order 0, 1: 17,065 texts. Pairs that
-// page 01 refuses are kept too, so nothing at this size is left to chance.
+// share a start, a goal or both are among them, and so are those that are
+// refused, so nothing at this size is left to chance.
+// Then every three moves of which two share an end, in all networks of two or
+// three nodes and in the six shapes of four joined nodes: 10,432 texts.
 // Likewise every move with every list of up to three nodes in networks of up
 // to three, and every house path in all of them: 3,033 cases from numbers.
 
 use crate::batch::Case;
-use crate::halls::hall_of;
+use crate::halls::{complete, hall_of, line, ring, star};
 use crate::job::{Hall, Job, Move};
 use crate::text;
 
@@ -36,15 +39,37 @@ fn all_lists(nodes: u16, length: usize) -> Vec<Vec<u16>> {
     lists
 }
 
-fn plans_in(hall: &Hall) -> Vec<Case> {
-    let mut cases = Vec::new();
-    for ends in all_lists(hall.nodes as u16, 4) {
-        let moves =
-            vec![Move { start: ends[0], goal: ends[1] }, Move { start: ends[2], goal: ends[3] }];
-        let job = Job { hall: hall.clone(), moves, order: vec![0, 1] };
-        cases.push(Case::Plan { text: text::write(&job) });
-    }
-    cases
+/// The plan of carriers with these ends, a start and a goal by turns.
+fn plan_of(hall: &Hall, ends: &[u16]) -> Case {
+    let moves: Vec<Move> =
+        ends.chunks_exact(2).map(|two| Move { start: two[0], goal: two[1] }).collect();
+    let order = (0..moves.len() as u16).collect();
+    Case::Plan { text: text::write(&Job { hall: hall.clone(), moves, order }) }
+}
+
+fn pairs_in(hall: &Hall) -> Vec<Case> {
+    all_lists(hall.nodes as u16, 4).iter().map(|ends| plan_of(hall, ends)).collect()
+}
+
+/// A line, a star, a ring, a triangle with a tail, a ring with one lane across
+/// it, and all six lanes: every joined network of four nodes is one of these,
+/// numbered in some way.
+fn joined_fours() -> Vec<Hall> {
+    let tail = hall_of(4, vec![(0, 1), (0, 2), (1, 2), (2, 3)]);
+    let across = hall_of(4, vec![(0, 1), (1, 2), (2, 3), (0, 3), (0, 2)]);
+    vec![line(4), star(4), ring(4), tail, across, complete(4)]
+}
+
+/// Whether two of three moves have one start or one goal.
+fn share_an_end(ends: &[u16]) -> bool {
+    (0..6).any(|one| (0..one).any(|other| one % 2 == other % 2 && ends[one] == ends[other]))
+}
+
+fn threes_in(hall: &Hall) -> Vec<Case> {
+    (all_lists(hall.nodes as u16, 6).iter())
+        .filter(|ends| ends.chunks_exact(2).all(|two| two[0] != two[1]) && share_an_end(ends))
+        .map(|ends| plan_of(hall, ends))
+        .collect()
 }
 
 fn paths_in(hall: &Hall) -> Vec<Case> {
@@ -67,5 +92,10 @@ fn paths_in(hall: &Hall) -> Vec<Case> {
 
 pub fn all_small_cases() -> Vec<Case> {
     let halls = all_small_halls();
-    halls.iter().flat_map(plans_in).chain(halls.iter().flat_map(paths_in)).collect()
+    let up_to_three = halls.iter().filter(|hall| hall.nodes <= 3);
+    let mut cases: Vec<Case> = halls.iter().flat_map(pairs_in).collect();
+    cases.extend(up_to_three.flat_map(threes_in));
+    cases.extend(joined_fours().iter().flat_map(threes_in));
+    cases.extend(halls.iter().flat_map(paths_in));
+    cases
 }

@@ -1,8 +1,8 @@
-// Page 01's own cases, and faults put into its printed job at every place
-// there is: cut off after each byte, each byte left out, and at each place a
-// byte of each of the five kinds put in or put over what stands there. Then
-// each damage of form on each line, and on the line of each damaged entry,
-// where the form must come first.
+// The cases of the rules, and faults put into page 01's printed job at every
+// place there is: cut off after each byte, each byte left out, and at each
+// place a byte of each of the five kinds put in or put over what stands there.
+// Then each damage of form on each line, and on the line of each damaged
+// entry, where the form must come first.
 
 use crate::batch::Case;
 use crate::damage_entries::{Draft, ENTRY_DAMAGES};
@@ -57,6 +57,7 @@ pub fn systematic_cases(dice: &mut Dice) -> Vec<Case> {
     let sound = PRINTED_JOB.as_bytes();
     let mut texts: Vec<Vec<u8>> =
         page::cases().iter().map(|(_, job, _)| text::write(job)).collect();
+    texts.extend(page::shared_cases().iter().map(|(job, _, _)| text::write(job)));
     texts.extend(spoiled_bytes(sound));
     texts.extend(spoiled_lines(sound, dice));
     texts.into_iter().map(|text| Case::Plan { text }).collect()

@@ -104,7 +104,7 @@ impl<'a> Lines<'a> {
         for _ in 0..carriers {
             let [start, goal] = self.numbers()?;
             let asked = Move { start, goal };
-            if let Some(number) = move_fault(nodes, &moves, asked) {
+            if let Some(number) = move_fault(nodes, asked) {
                 return self.refuse(number);
             }
             moves.push(asked);
@@ -138,7 +138,7 @@ impl<'a> Lines<'a> {
     }
 }
 
-/// The job that a text holds, or refusal 1 to 7 with its line.
+/// The job that a text holds, or refusal 1 to 5 or 7 with its line.
 pub fn read(text: &[u8]) -> Result<Job, Refusal> {
     let mut lines = Lines { rest: text, number: 0 };
     let hall = lines.hall()?;

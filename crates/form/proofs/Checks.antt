@@ -1,16 +1,16 @@
--- The laws of the checks of an entry. Their numbers are 3 to 7, and in a line the lower is asked before the
--- higher (rule 7.9). They are decided, by the tests that the questions from numbers have (hall's FaultTests).
--- They look only at the numbers up to their entry's own: each reads places below its entry's end, so that two
--- lists that agree there give one answer. What a new kind of entry has to show is shown here. Assumes
--- nothing.
+-- The laws of the checks of an entry. Their numbers are 3, 4, 5 and 7, and in a line the lower is asked
+-- before the higher (rule 7.9). They are decided, by the tests that the questions from numbers have (hall's
+-- FaultTests). They look only at the numbers up to their entry's own: each reads places below its entry's
+-- end, so that two lists that agree there give one answer. What a new kind of entry has to show is shown
+-- here. Assumes nothing.
 --     Rises            the numbers of a stage's checks rise
 --     checks-rise      those of an entry do
---     check-numbers    the number of a check that holds is 3 to 7
+--     check-numbers    the number of a check that holds is 3, 4, 5 or 7
 --     decides          each check of an entry is decided
 --     nodes-steady, lanes-steady, carriers-steady, order-steady    those of each section of a job text look
 --                      only at the numbers up to their entry's own
 use mathlib.Core.Path.{_≡_, refl, sym, _∙_}
-use mathlib.Core.Logic.{_⊎_, inl, inr}
+use mathlib.Core.Logic.{inl, inr, _≢_}
 use mathlib.Core.List.{List, [], _∷_}
 use Prim.Native.Nat.{ℕ, suc, _+_, _*_, _≤_, _<_}
 use native.Mathlib.Omega.{arith}
@@ -18,7 +18,7 @@ use lib.ListN.{getD}
 use Rattle.hall.specs.Floor.{lower, higher, networkOf, nodesOnly}
 use Rattle.hall.specs.Stages.{Stage, here, later, FirstAt}
 use Rattle.hall.specs.Refusals.{Exceeds, by-lower, by-higher, LaneFault, no-node, not-below, not-rising}
-use Rattle.hall.specs.Refusals.{OffFloor-at, SharedEnd-at, BadOrder-at, no-carrier, stands-earlier}
+use Rattle.hall.specs.Refusals.{OffFloor-at, BadOrder-at, no-carrier, stands-earlier}
 use Rattle.hall.proofs.Stages.{DecidedAt}
 use Rattle.hall.proofs.Test.{dec}
 use Rattle.hall.proofs.FaultTests.{lane-fault?, move-checks?, bad-order?}
@@ -38,19 +38,21 @@ Rises (c ∷ d ∷ s) = (c .number < d .number) × Rises (d ∷ s)
 pub checks-rise : (x : Entry) (read : List Content) (l : List ℕ) → Rises (checksOf x read l)
 checks-rise none read l = tt
 checks-rise lane read l = tt
-checks-rise move read l = (omega arith, (omega arith, tt))
+checks-rise move read l = (omega arith, tt)
 checks-rise place read l = tt
 
+number : {f : ℕ} (n : ℕ) → (3 ≤ n) × (n ≤ 7) × (n ≢ 6) → f ≡ n → (3 ≤ f) × (f ≤ 7) × (f ≢ 6)
+number n is e = rw e is
+
 pub check-numbers : (x : Entry) (read : List Content) (l : List ℕ) (f k : ℕ) → FirstAt (checksOf x read l) f k
-    → (3 ≤ f) × (f ≤ 7)
+    → (3 ≤ f) × (f ≤ 7) × (f ≢ 6)
 check-numbers none read l f k h = absurd h
-check-numbers lane read l f k (here h) = omega (arith, h .0)
+check-numbers lane read l f k (here h) = number 3 (omega arith) (h .0)
 check-numbers lane read l f k (later n h) = absurd h
-check-numbers move read l f k (here h) = omega (arith, h .0)
-check-numbers move read l f k (later n (here h)) = omega (arith, h .0)
-check-numbers move read l f k (later n (later m (here h))) = omega (arith, h .0)
-check-numbers move read l f k (later n (later m (later o h))) = absurd h
-check-numbers place read l f k (here h) = omega (arith, h .0)
+check-numbers move read l f k (here h) = number 4 (omega arith) (h .0)
+check-numbers move read l f k (later n (here h)) = number 5 (omega arith) (h .0)
+check-numbers move read l f k (later n (later m h)) = absurd h
+check-numbers place read l f k (here h) = number 7 (omega arith) (h .0)
 check-numbers place read l f k (later n h) = absurd h
 
 -- ---- they are decided
@@ -60,7 +62,7 @@ decides none read l k = tt
 decides lane read l k = (dec (lane-fault? (networkOf (countOf NODES read) l) k), tt)
 decides move read l k =
     let t = move-checks? (nodesOnly (countOf NODES read)) l k in
-    (dec (t .0), (dec (t .1 .0), (dec (t .1 .1 .0), tt)))
+    (dec (t .0), (dec (t .1 .0), tt))
 decides place read l k = (dec (bad-order? (countOf CARRIERS read) l k), tt)
 
 -- ---- what they look at
@@ -96,16 +98,6 @@ module _ (l m : List ℕ) (k : ℕ) where
     ends-same : lower l k ≡ higher l k → lower m k ≡ higher m k
     ends-same e = sym (low k (omega arith)) ∙ e ∙ high k (omega arith)
 
-    shared-same : SharedEnd-at l k → SharedEnd-at m k
-    shared-same x =
-        let h : x .earlier ≤ k = omega (arith, x .before) in
-        record { earlier = x .earlier; before = x .before; shares = cases h (x .shares) }
-      where
-        cases : {j : ℕ} → j ≤ k → (lower l j ≡ lower l k) ⊎ (higher l j ≡ higher l k)
-            → (lower m j ≡ lower m k) ⊎ (higher m j ≡ higher m k)
-        cases {j} h (inl e) = inl (sym (low j h) ∙ e ∙ low k (omega arith))
-        cases {j} h (inr e) = inr (sym (high j h) ∙ e ∙ high k (omega arith))
-
   module _ (a : Agree (1 * suc k) l m) where
     at-place : (j : ℕ) → j ≤ k → getD l j 0 ≡ getD m j 0
     at-place j h = a j (omega arith)
@@ -128,11 +120,7 @@ carriers-steady read l m k a =
     let b = agree-back l m a in (
       refl,
       (λ x. off-same l m k a _ x, λ x. off-same m l k b _ x),
-      (
-        refl,
-        (λ x. ends-same l m k a x, λ x. ends-same m l k b x),
-        (refl, (λ x. shared-same l m k a x, λ x. shared-same m l k b x), tt),
-      ),
+      (refl, (λ x. ends-same l m k a x, λ x. ends-same m l k b x), tt),
     )
 
 pub order-steady : Steady orderSection

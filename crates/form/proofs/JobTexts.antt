@@ -16,11 +16,11 @@
 --     jobReading        the answer to a text; `job-reading-exactly` it is what the text says
 --     written-read      a job that is written is read as what it was; `read-written` what is read is written
 --                       as the text was
---     refused-with      a text is refused with 1 to 7 only
+--     refused-with      a text is refused with 1 to 5 and 7 only
 --     accepted-length   an accepted text has at most 41,967 bytes, and so at most 42,000 (rule 7.6)
 --     front-job         the first 41,968 bytes or more of a text say what the text says (rule 7.7)
 use mathlib.Core.Path.{_≡_, refl, sym, _∙_, ap}
-use mathlib.Core.Logic.{_↔_}
+use mathlib.Core.Logic.{_↔_, _≢_}
 use mathlib.Core.List.{List, [], _∷_}
 use Prim.Native.Nat.{ℕ, _≤_, _<_}
 use native.Mathlib.Omega.{arith}
@@ -80,7 +80,7 @@ module _ (t : List ℕ) where
   pub one-refusal : (n m l k : ℕ) → Refused jobText t n l → Refused jobText t m k → (n ≡ m) × (l ≡ k)
   one-refusal n m l k = refusal-unique jobText job-told t n m l k
 
-  pub refused-with : (n l : ℕ) → Refused jobText t n l → (1 ≤ n) × (n ≤ 7)
+  pub refused-with : (n l : ℕ) → Refused jobText t n l → (1 ≤ n) × (n ≤ 7) × (n ≢ 6)
   refused-with = refusal-numbers jobText t
 
   pub one-answer : (s : Said Numbers) × ReadsJob t s

@@ -134,7 +134,7 @@ module _ (j : Numbers) (sound : None (checksQuestion j)) where
       nodes-sound [] _ _ (j .network .nodes) nodes-fit
       (lanes-sound _ _ _ (j .network .lanes) lanes-paired small-lanes lanes-few (facts .network .lane)
       (carriers-sound _ _ _ (j .moves) paired (small-moves paired) (carriers-limit j sound)
-      (λ i b. (facts .off-floor i b, (facts .same-ends i b, (facts .shared-end i b, tt))))
+      (λ i b. (facts .off-floor i b, (facts .same-ends i b, tt)))
       (order-sound _ _ [] (j .order) small-order (order-length j sound)
       (omega (arith, order-length j sound, carriers-limit j sound))
       (λ p b. (facts .bad-order p b, tt)) (over _ [] tt))))

@@ -1,16 +1,17 @@
--- The cases P1 to P11 hold, the outcomes that the easy errors would give do not (rule 11.13), and where
--- several faults hold of a job the order of the checks decides (rule 8.22): each is one table, by one test of
--- a job with an outcome. A line of a table costs no proof of its own. Assumes nothing.
---     cases           P1 to P11 (specs/Case.antt)
---     wrong-cases     a job of the table with an outcome that a planner with that error may give: for P8, P4
---                     and P7 the one that the rule names
+-- The cases P1 to P11 and those of shared ends hold, the outcomes that the easy errors would give do not
+-- (rule 11.13), and where several faults hold of a job the order of the checks decides (rule 8.22): each is
+-- one table, by one test of a job with an outcome. A line of a table costs no proof of its own. Assumes
+-- nothing.
+--     cases           P1 to P11; shared-cases carriers that share an end (specs/Case.antt)
+--     wrong-cases     a job with an outcome that a planner with that error may give: for P8, P4 and P7 the
+--                     one that the rule names
 --     refusal-cases   jobs at a limit, and jobs with several faults and the first of them
 use mathlib.Core.List.{List, [], _∷_}
 use Prim.Native.Nat.{ℕ, _<_}
 use lib.ListN.{length, getD, replicate}
 use Rattle.hall.specs.Ticks.{total}
 use Rattle.hall.specs.Said.{refused}
-use Rattle.hall.specs.Case.{planned, Case, Holds, case, cases, line2, line4, line5, six-lanes}
+use Rattle.hall.specs.Case.{planned, Case, Holds, case, cases, shared-cases, line2, line4, line5, six-lanes}
 use Rattle.hall.proofs.Test.{Test, not?, _then?_, all?}
 use Rattle.hall.proofs.JobTests.{Labelled, labelled?, gives?}
 
@@ -31,6 +32,12 @@ pub all-cases : (k : ℕ) → k < length cases → Holds (getD cases k no-case)
 unfolding cases total
 all-cases k h = all? (λ k. right? (getD cases k no-case)) (length cases) .sound tt k h .1
 
+-- ---- shared lifts and chutes (rule 11.14)
+
+pub all-shared-cases : (k : ℕ) → k < length shared-cases → Holds (getD shared-cases k no-case)
+unfolding shared-cases total
+all-shared-cases k h = all? (λ k. right? (getD shared-cases k no-case)) (length shared-cases) .sound tt k h .1
+
 -- ---- errors that come easily (rule 11.13)
 
 unfoldable pub wrong-cases : List Case
@@ -48,6 +55,12 @@ wrong-cases =
     ∷ case 4 (0 ∷ 1 ∷ 2 ∷ 3 ∷ []) (0 ∷ 1 ∷ 2 ∷ 3 ∷ []) (0 ∷ 1 ∷ []) (planned (0 ∷ 3 ∷ []) 5)
     -- P11, the same of a carrier's own distance: planned, with 65,535 as the goal tick
     ∷ case 3 line2 (0 ∷ 2 ∷ []) (0 ∷ []) (planned (0 ∷ []) 65535)
+    -- one lift for two, which leave it at one tick
+    ∷ case 4 line4 (1 ∷ 0 ∷ 1 ∷ 3 ∷ []) (0 ∷ 1 ∷ []) (planned (0 ∷ 0 ∷ []) 3)
+    -- one chute for two, which come to it at one tick
+    ∷ case 4 line4 (0 ∷ 1 ∷ 2 ∷ 1 ∷ []) (0 ∷ 1 ∷ []) (planned (0 ∷ 0 ∷ []) 2)
+    -- and the refusal 6 that such a job had before moves could share an end
+    ∷ case 4 line4 (0 ∷ 1 ∷ 0 ∷ 2 ∷ []) (0 ∷ 1 ∷ []) (refused 6 1)
     ∷ []
 
 pub no-wrong-case : (k : ℕ) → k < length wrong-cases → ¬ Holds (getD wrong-cases k no-case)
@@ -72,10 +85,11 @@ refusal-cases =
     -- lane `1 0` gives 3, before a start that is no node; a lane that stands twice
     ∷ case 2 (1 ∷ 0 ∷ []) (0 ∷ 2 ∷ []) (0 ∷ []) (refused 3 0)
     ∷ case 2 (0 ∷ 1 ∷ 0 ∷ 1 ∷ []) (0 ∷ 1 ∷ []) (0 ∷ []) (refused 3 1)
-    -- of one move 4 comes before 5; of two moves the earlier one decides, whatever its number
+    -- of one move 4 comes before 5; of two moves the earlier one decides, whatever its number; that two moves
+    -- have one start is no fault
     ∷ case 2 line2 (2 ∷ 2 ∷ []) (0 ∷ []) (refused 4 0)
     ∷ case 2 line2 (1 ∷ 1 ∷ 2 ∷ 0 ∷ []) (0 ∷ 1 ∷ []) (refused 5 0)
-    ∷ case 4 line4 (0 ∷ 1 ∷ 0 ∷ 2 ∷ 3 ∷ 3 ∷ []) (0 ∷ 1 ∷ 2 ∷ []) (refused 6 1)
+    ∷ case 4 line4 (0 ∷ 1 ∷ 0 ∷ 2 ∷ 3 ∷ 3 ∷ []) (0 ∷ 1 ∷ 2 ∷ []) (refused 5 2)
     -- a move comes before the order, and the order before a walk that is missing
     ∷ case 2 line2 (0 ∷ 1 ∷ 1 ∷ 1 ∷ []) (0 ∷ 0 ∷ []) (refused 5 1)
     ∷ case 3 line2 (0 ∷ 2 ∷ 1 ∷ 0 ∷ []) (0 ∷ 0 ∷ []) (refused 7 1)

@@ -3,8 +3,8 @@
 -- `pair-safe` keeps the two apart; meeting and crossing do not ask who is first. A shortest path has as many
 -- lanes as the distance, so the carrier stands on its goal that many ticks after its start and on no node
 -- later. The first starts at 0 and each other one tick after the latest goal tick before it at the latest, by
--- the laws of Ticks.antt. Of the job only its listing is used (Sound.antt), so that starts or goals differ is
--- used nowhere. Assumes nothing.
+-- the laws of Ticks.antt. Of the job only its listing is used (Sound.antt), so that carriers may share their
+-- starts and goals; what that gives is in Shared.antt. Assumes nothing.
 use mathlib.Core.Path.{_≡_, refl, sym, _∙_, ap}
 use mathlib.Core.Logic.{_≢_}
 use mathlib.Core.List.{List}
@@ -70,31 +70,38 @@ module _ {F : Floor} {s g d : ℕ} {l : List ℕ} (p : PathOf F s g d l) (t : �
   off-floor-else : (x v : ℕ) → At l t x v → (t ≤ x) × (x ≤ t + d)
   off-floor-else x v h = (omega (arith, h .time), omega (arith, h .time, h .on-floor, p .size))
 
--- ---- start ticks by an order
+-- ---- the distances of two carriers are true
 
-module _ {F : Floor} (both-ways : Symmetric F) (k : ℕ) (start goal : ℕ → ℕ) (t : Tables) (true-tables : TablesOf F k start goal t)
-    (reached : (i : ℕ) → i < k → own t i ≢ 65535) (order : List ℕ) (in-range : (q : ℕ) → q < length order → getD order q 0 < k)
-    (tick : ℕ → ℕ) (s : StartTicks t order tick) (path : ℕ → List ℕ) (shortest : (i : ℕ) → i < k → ShortestPath F (start i) (goal i) (path i)) where
-  own-distance : (i : ℕ) → i < k → Dist F (start i) (goal i) (own t i)
-  own-distance i h = true-distance (true-tables .start-goal i i h h) (reached i h)
+module _ {F : Floor} {k : ℕ} {start goal : ℕ → ℕ} {t : Tables} (true-tables : TablesOf F k start goal t)
+    (reached : (i : ℕ) → i < k → own t i ≢ 65535) where
+  pub true-own : (i : ℕ) → i < k → Dist F (start i) (goal i) (own t i)
+  true-own i h = true-distance (true-tables .start-goal i i h h) (reached i h)
 
-  own-path : (i : ℕ) → i < k → PathOf F (start i) (goal i) (own t i) (path i)
-  own-path i h = shortest-path (own-distance i h) (shortest i h)
-
-  pair-distances : (i j : ℕ) → i < k → j < k → DistancesOf F (start i) (goal i) (start j) (goal j) (pairOf t i j)
-  pair-distances i j hi hj = record {
-    own-i = own-distance i hi;
-    own-j = own-distance j hj;
+  pub true-pair : (i j : ℕ) → i < k → j < k → DistancesOf F (start i) (goal i) (start j) (goal j) (pairOf t i j)
+  true-pair i j hi hj = record {
+    own-i = true-own i hi;
+    own-j = true-own j hj;
     starts = true-tables .starts i j hi hj;
     goals = true-tables .goals i j hi hj;
     i-to-j = true-tables .start-goal i j hi hj;
     j-to-i = true-tables .start-goal j i hj hi;
   }
 
+-- ---- start ticks by an order
+
+module _ {F : Floor} (both-ways : Symmetric F) (k : ℕ) (start goal : ℕ → ℕ) (t : Tables) (true-tables : TablesOf F k start goal t)
+    (reached : (i : ℕ) → i < k → own t i ≢ 65535) (order : List ℕ) (in-range : (q : ℕ) → q < length order → getD order q 0 < k)
+    (tick : ℕ → ℕ) (s : StartTicks t order tick) (path : ℕ → List ℕ) (shortest : (i : ℕ) → i < k → ShortestPath F (start i) (goal i) (path i)) where
+  own-distance : (i : ℕ) → i < k → Dist F (start i) (goal i) (own t i)
+  own-distance = true-own true-tables reached
+
+  own-path : (i : ℕ) → i < k → PathOf F (start i) (goal i) (own t i) (path i)
+  own-path i h = shortest-path (own-distance i h) (shortest i h)
+
   earlier-apart : (p q : ℕ) → p < q → q < length order → Apart path tick (getD order p 0) (getD order q 0)
   unfolding PermittedBy
   earlier-apart p q h l =
-      pair-safe both-ways (pair-distances i j hi hj) (own-path i hi) (own-path j hj) (tick i) (tick j) (s .smallest q l .permitted p h)
+      pair-safe both-ways (true-pair true-tables reached i j hi hj) (own-path i hi) (own-path j hj) (tick i) (tick j) (s .smallest q l .permitted p h)
     where
       i : ℕ
       i = getD order p 0

@@ -1,6 +1,6 @@
--- Computed tests of the faults 3 to 7 of an entry, and of every stage of a job from numbers. Whether a walk
--- is missing is left open: it is decided (Complete.antt), or computed from labels (JobTests.antt). Assumes
--- nothing.
+-- Computed tests of the faults 3, 4, 5 and 7 of an entry, and of every stage of a job from numbers. Whether a
+-- walk is missing is left open: it is decided (Complete.antt), or computed from labels (JobTests.antt).
+-- Assumes nothing.
 use mathlib.Core.Path.{_≡_}
 use mathlib.Core.Logic.{_⊎_, inl, inr}
 use mathlib.Core.List.{List, [], _∷_}
@@ -11,7 +11,7 @@ use Rattle.hall.specs.Limits.{nodeLimit, laneLimit, carrierLimit}
 use Rattle.hall.specs.Floor.{Network, laneCount, lower, higher}
 use Rattle.hall.specs.Job.{Numbers, carriers, moveCount, startIn, goalIn}
 use Rattle.hall.specs.Refusals.{Exceeds, by-lower, by-higher, LaneFault, no-node, not-below, not-rising}
-use Rattle.hall.specs.Refusals.{SharedEnd-at, BadOrder-at, no-carrier, stands-earlier}
+use Rattle.hall.specs.Refusals.{BadOrder-at, no-carrier, stands-earlier}
 use Rattle.hall.specs.Questions.{nodesCount, lanesCount, carriersCount, orderCount, laneChecks, eachLane}
 use Rattle.hall.specs.Questions.{moveChecks, eachMove, orderChecks, eachOrderPlace, eachWalk}
 use Rattle.hall.specs.Questions.{checksQuestion, jobQuestion}
@@ -61,17 +61,7 @@ module _ (N : Network) (k : ℕ) where
       or? le? (higher (N .lanes) k) (lower (N .lanes) k)
       or? any? (λ j. eq? (j + 1) k and? not? (exceeds? (N .lanes) k j)) k)
 
--- ---- 6 and 7, the moves and the order
-
-abbrev pub Shares : (moves : List ℕ) (i earlier : ℕ) → Type 0
-Shares moves i earlier = (startIn moves earlier ≡ startIn moves i) ⊎ (goalIn moves earlier ≡ goalIn moves i)
-
-abbrev pub shared-end? : (moves : List ℕ) (i : ℕ) → Test (SharedEnd-at moves i)
-shared-end? moves i =
-    map? {A = Some (Shares moves i) i}
-    (λ h. record { earlier = h .k; before = h .below; shares = h .is })
-    (λ s. record { k = s .earlier; below = s .before; is = s .shares })
-    (any? (λ e. eq? (startIn moves e) (startIn moves i) or? eq? (goalIn moves e) (goalIn moves i)) i)
+-- ---- 7, the order
 
 abbrev pub OrderCase : (count : ℕ) (order : List ℕ) (p : ℕ) → Type 0
 OrderCase count order p = (count ≤ getD order p 0) ⊎ Some (λ q. getD order q 0 ≡ getD order p 0) p
@@ -111,7 +101,7 @@ module _ (N : Network) (moves : List ℕ) where
   abbrev pub move-checks? : (i : ℕ) → ChecksAt (moveChecks N moves) i
   move-checks? i = (
     le? (N .nodes) (startIn moves i) or? le? (N .nodes) (goalIn moves i),
-    (eq? (startIn moves i) (goalIn moves i), (shared-end? moves i, tt)),
+    (eq? (startIn moves i) (goalIn moves i), tt),
   )
 
   abbrev pub each-move? : Tested (eachMove N moves)

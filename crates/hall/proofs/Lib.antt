@@ -1,12 +1,11 @@
 -- The laws of the definitions in specs/, from the bottom up. The laws of plans (those that end in -listed,
--- and what they cite) use of a job that its order lists each carrier once, and not that starts or goals
--- differ.
+-- and what they cite) use of a job that its order lists each carrier once, and nothing of its moves.
 --     numbers       Ints, Left, Answers, Lowest, Test
 --     the floor     Walks, Lists, LaneList, Paths, Pigeon, Labels, FloorTests, Decide, House
 --     the rule      Rules, Ranges, Safe, Ticks, TickTests
---     refusals      Numbers, Stages, Compose, Places, Crowded, StageTests, FaultTests, Complete, Sound,
---                   WellFormed
---     plans         Demand, PlanLaws, Exist, Summit
+--     refusals      Numbers, Stages, Moves, Compose, Places, Crowded, StageTests, FaultTests, Complete,
+--                   Sound, WellFormed
+--     plans         Demand, Shared, PlanLaws, Exist, Summit
 --     P1 to P11     JobTests, Cases, CaseRemarks, Outcomes
 pub mod Ints
 pub mod Walks
@@ -22,12 +21,14 @@ pub mod Labels
 pub mod Ticks
 pub mod Numbers
 pub mod Stages
+pub mod Moves
 pub mod Compose
 pub mod Places
 pub mod Crowded
 pub mod Left
 pub mod Sound
 pub mod Demand
+pub mod Shared
 pub mod PlanLaws
 pub mod Lowest
 pub mod TickTests

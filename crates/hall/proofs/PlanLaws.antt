@@ -2,8 +2,8 @@
 -- rule 5.6. The tables are distances, which are unique; the ticks ask the tables only for distances between
 -- the order's carriers, so start ticks by one of two equal tables are start ticks by the other, and these are
 -- unique; the cost is the sum of equal goal ticks. The limits are those of Ticks.antt, since a carrier's own
--- distance is at most 1,023. A job without the faults 2 to 7 is such a job; nothing here uses that starts or
--- goals differ. Assumes nothing.
+-- distance is at most 1,023. A job without the faults 2 to 7 is such a job; of its moves nothing is used
+-- here. Assumes nothing.
 --     SameTables    two tables agree for the carrier numbers below k
 --     SamePlan      the tables, the start ticks and the cost of two plans agree
 use mathlib.Core.Path.{_≡_, sym, _∙_, subst}

@@ -1,8 +1,8 @@
 -- What a job without the faults 2 to 7 is known to be: each fact is the denial of one check, read off the
 -- list of stages. The laws of plans use of it that there are at most 64 carriers and that the order lists
--- each carrier number once (`Listing`); that starts differ, that goals differ and that a start is unlike its
--- goal (5 and 6) they use nowhere, so they hold of jobs without these too. That every carrier has a place is
--- the counting law `all-listed`. Assumes nothing.
+-- each carrier number once (`Listing`); that a start is unlike its goal (5) they use nowhere, and of two
+-- moves together there is nothing to use. That every carrier has a place is the counting law `all-listed`.
+-- Assumes nothing.
 --     Denied j     none of the checks 2 to 7 holds of the job, check by check
 --     Listing j    the order lists the carrier numbers by place, each once, and there are at most 64
 use mathlib.Core.Path.{_≡_, sym}
@@ -16,7 +16,7 @@ use Rattle.hall.specs.Limits.{nodeLimit, laneLimit, carrierLimit}
 use Rattle.hall.specs.Floor.{NoWalk, Network, laneCount, floor}
 use Rattle.hall.specs.Job.{Numbers, carriers, start, goal, at-place, EndsOn}
 use Rattle.hall.specs.Stages.{FirstOf, here, later, FirstAt, FirstStage, First, None}
-use Rattle.hall.specs.Refusals.{LaneFault, OffFloor-at, SharedEnd-at, BadOrder-at, no-carrier, stands-earlier}
+use Rattle.hall.specs.Refusals.{LaneFault, OffFloor-at, BadOrder-at, no-carrier, stands-earlier}
 use Rattle.hall.specs.Questions.{laneChecks, moveChecks, orderChecks, walkChecks, eachWalk}
 use Rattle.hall.specs.Questions.{networkQuestion, checksQuestion, jobQuestion}
 use Rattle.hall.proofs.Stages.{none-excludes}
@@ -50,7 +50,6 @@ pub record Denied (j : Numbers) : Type 0 where
   pub order-count : ¬ (length (j .order) ≢ carriers j)
   pub off-floor : (i : ℕ) → i < carriers j → ¬ OffFloor-at (j .network) (start j i) (goal j i)
   pub same-ends : (i : ℕ) → i < carriers j → ¬ (start j i ≡ goal j i)
-  pub shared-end : (i : ℕ) → i < carriers j → ¬ SharedEnd-at (j .moves) i
   pub bad-order : (p : ℕ) → p < length (j .order) → ¬ BadOrder-at (carriers j) (j .order) p
 
 pub denied-checks : (j : Numbers) → None (checksQuestion j) → Denied j
@@ -68,7 +67,6 @@ denied-checks j none =
       order-count = order .0;
       off-floor = λ i l. move .0 .clear i l .0;
       same-ends = λ i l. move .0 .clear i l .1 .0;
-      shared-end = λ i l. move .0 .clear i l .1 .1 .0;
       bad-order = λ p l. entry .0 .clear p l .0;
     }
 

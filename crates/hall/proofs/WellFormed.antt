@@ -15,7 +15,7 @@ use Rattle.hall.specs.Limits.{nodeLimit, laneLimit}
 use Rattle.hall.specs.Floor.{Network, laneCount, lower, higher, Lane}
 use Rattle.hall.specs.Job.{Numbers, carriers, start, goal}
 use Rattle.hall.specs.Refusals.{Exceeds, by-lower, by-higher, LaneFault, no-node, not-below, not-rising}
-use Rattle.hall.specs.Refusals.{OffFloor-at, SharedEnd-at, BadOrder-at, no-carrier, stands-earlier}
+use Rattle.hall.specs.Refusals.{OffFloor-at, BadOrder-at, no-carrier, stands-earlier}
 use Rattle.hall.specs.Stages.{None}
 use Rattle.hall.specs.Questions.{laneChecks, moveChecks, orderChecks, checksQuestion}
 use Rattle.hall.specs.WellFormed.{WellFormedNetwork, WellFormed}
@@ -78,25 +78,12 @@ module _ (j : Numbers) (sound : None (checksQuestion j)) where
   facts : Denied j
   facts = denied-checks j sound
 
-  -- of two carriers one has the higher number
-  differ : (end : ℕ → ℕ) → ((i : ℕ) → i < carriers j → (e : ℕ) → e < i → end e ≢ end i) →
-      (i k : ℕ) → i < carriers j → k < carriers j → i ≢ k → end i ≢ end k
-  differ end earlier i k hi hk d e = cases (decLt i k)
-    where
-      cases : Dec (i < k) → ⊥
-      cases (yes l) = earlier k hk i l e
-      cases (no l) = earlier i hi k (omega arith) (sym e)
-
   pub well-formed : WellFormed j
   well-formed = record {
     network-is = well-formed-network (j .network) (facts .network);
     carrier-count = carriers-limit j sound;
     ends-on = ends-on j sound;
     ends-differ = facts .same-ends;
-    starts-differ = differ (start j)
-        (λ i h e l x. facts .shared-end i h (record { earlier = e; before = l; shares = inl x }));
-    goals-differ = differ (goal j)
-        (λ i h e l x. facts .shared-end i h (record { earlier = e; before = l; shares = inr x }));
     order-count = order-length j sound;
     entry = entry-below j sound;
     placed = λ c h. let f = place-of j sound c h in (f .place, (f .inside, f .is));
@@ -128,15 +115,6 @@ module _ (j : Numbers) (w : WellFormed j) where
   no-off-floor i h (inl x) = omega (arith, w .ends-on .starts i h)
   no-off-floor i h (inr x) = omega (arith, w .ends-on .goals i h)
 
-  no-shared-end : (i : ℕ) → i < carriers j → (s : SharedEnd-at (j .moves) i) → ⊥
-  no-shared-end i h s = cases (s .shares)
-    where
-      cases : (start j (s .earlier) ≡ start j i) ⊎ (goal j (s .earlier) ≡ goal j i) → ⊥
-      cases (inl e) =
-          w .starts-differ (s .earlier) i (omega (arith, s .before)) h (λ x. omega (arith, s .before)) e
-      cases (inr e) =
-          w .goals-differ (s .earlier) i (omega (arith, s .before)) h (λ x. omega (arith, s .before)) e
-
   no-bad-order : (p : ℕ) → p < length (j .order) → ¬ BadOrder-at (carriers j) (j .order) p
   no-bad-order p h (no-carrier x) = omega (arith, w .entry p h)
   no-bad-order p h (stands-earlier {q = q} l e) = w .once q p (omega arith) h (λ x. omega arith) e
@@ -153,7 +131,7 @@ module _ (j : Numbers) (w : WellFormed j) where
       none-at-all))))))
     where
       moves-passed : Passed (moveChecks (j .network) (j .moves)) (carriers j)
-      moves-passed = record { clear = λ i l. (no-off-floor i l, (w .ends-differ i l, (no-shared-end i l, tt))) }
+      moves-passed = record { clear = λ i l. (no-off-floor i l, (w .ends-differ i l, tt)) }
 
       order-passed : Passed (orderChecks (carriers j) (j .order)) (length (j .order))
       order-passed = record { clear = λ p l. (no-bad-order p l, tt) }

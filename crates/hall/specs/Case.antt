@@ -1,5 +1,6 @@
--- The cases P1 to P11 (rules 11.1 to 11.11) as one table. A line is the whole outcome of its job:
--- `outcome-unique` (proofs/Outcomes.antt) says that a job has no second one.
+-- The cases P1 to P11 (rules 11.1 to 11.11) as one table, and those of carriers that share an end (rule
+-- 11.14) as another. A line is the whole outcome of its job: `outcome-unique` (proofs/Outcomes.antt) says
+-- that a job has no second one.
 --     Schedule    start ticks by carrier number, and the cost
 --     Outcome     what is said of a job: a schedule, or a refusal with its number and place
 --     planned     a schedule as an outcome
@@ -12,6 +13,7 @@
 --     case        a case from its numbers: nodes, lanes, moves, order, outcome
 --     cases       P1 to P11, line by line. Where the rules name no network (no carriers) it is line 5; where
 --                 they name no cost it is the sum of the goal ticks
+--     shared-cases    carriers from one lift, into one chute, or both
 use mathlib.Core.Path.{_≡_}
 use mathlib.Core.List.{List, [], _∷_}
 use Prim.Native.Nat.{ℕ}
@@ -90,4 +92,20 @@ cases =
     ∷ case 4 (0 ∷ 1 ∷ 2 ∷ 3 ∷ []) (0 ∷ 1 ∷ 2 ∷ 3 ∷ []) (0 ∷ 1 ∷ []) (planned (0 ∷ 0 ∷ []) 2)
     -- P11
     ∷ case 3 line2 (0 ∷ 2 ∷ []) (0 ∷ []) (refused 8 0)
+    ∷ []
+
+unfoldable pub shared-cases : List Case
+shared-cases =
+    -- a train
+    case 4 line4 (0 ∷ 3 ∷ 0 ∷ 3 ∷ 0 ∷ 3 ∷ []) (0 ∷ 1 ∷ 2 ∷ []) (planned (0 ∷ 1 ∷ 2 ∷ []) 12)
+    -- another order
+    ∷ case 4 line4 (0 ∷ 3 ∷ 0 ∷ 3 ∷ 0 ∷ 3 ∷ []) (2 ∷ 0 ∷ 1 ∷ []) (planned (1 ∷ 2 ∷ 0 ∷ []) 12)
+    -- one lift between two goals
+    ∷ case 4 line4 (1 ∷ 0 ∷ 1 ∷ 3 ∷ []) (0 ∷ 1 ∷ []) (planned (0 ∷ 1 ∷ []) 4)
+    -- one chute behind two starts
+    ∷ case 4 line4 (0 ∷ 3 ∷ 2 ∷ 3 ∷ []) (0 ∷ 1 ∷ []) (planned (0 ∷ 0 ∷ []) 4)
+    -- one chute between two starts
+    ∷ case 4 line4 (0 ∷ 1 ∷ 2 ∷ 1 ∷ []) (0 ∷ 1 ∷ []) (planned (0 ∷ 1 ∷ []) 3)
+    -- a train, and one against it
+    ∷ case 5 line5 (0 ∷ 4 ∷ 0 ∷ 4 ∷ 4 ∷ 0 ∷ []) (0 ∷ 1 ∷ 2 ∷ []) (planned (0 ∷ 1 ∷ 6 ∷ []) 19)
     ∷ []

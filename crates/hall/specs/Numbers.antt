@@ -1,11 +1,12 @@
--- The number of each fault (rules 8.1 to 8.11). Stages, answers and promises speak of the numbers; nothing in
--- the definitions goes through the faults one by one but this.
+-- The number of each fault (rules 8.1 to 8.11). No fault has 6, which is not in use (rule 8.6; `six-unused`,
+-- proofs/Numbers.antt). Stages, answers and promises speak of the numbers; nothing in the definitions goes
+-- through the faults one by one but this.
 --     numberOf    the number under which a fault is listed
 use Prim.Native.Nat.{ℕ}
 use Rattle.hall.specs.declared.Fault.{Fault}
 use Rattle.hall.specs.declared.Fault.the-variants.{Malformed, BadCount, BadLane, OffFloor, SameEnds}
-use Rattle.hall.specs.declared.Fault.the-variants.{SharedEnd, BadOrder, Unreachable, ShortTable}
-use Rattle.hall.specs.declared.Fault.the-variants.{NoCarrier, NotShortest}
+use Rattle.hall.specs.declared.Fault.the-variants.{BadOrder, Unreachable, ShortTable, NoCarrier}
+use Rattle.hall.specs.declared.Fault.the-variants.{NotShortest}
 
 abbrev pub numberOf : Fault → ℕ
 numberOf Malformed = 1
@@ -13,7 +14,6 @@ numberOf BadCount = 2
 numberOf BadLane = 3
 numberOf OffFloor = 4
 numberOf SameEnds = 5
-numberOf SharedEnd = 6
 numberOf BadOrder = 7
 numberOf Unreachable = 8
 numberOf ShortTable = 9

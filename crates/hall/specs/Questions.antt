@@ -7,8 +7,8 @@
 --     laneChecks         3, of the lane at a place
 --     eachLane           3, lane by lane
 --     ends               4 and 5, of the move at a place, by its start and its goal
---     moveChecks         4 to 6, of the move at a place of a list of moves
---     eachMove           4 to 6, for each move in turn
+--     moveChecks         4 and 5, of the move at a place of a list of moves: no other move is looked at
+--     eachMove           4 and 5, for each move in turn
 --     orderChecks        7, of the order's entry at a place
 --     eachOrderPlace     7, place by place
 --     walkChecks         8, of the move at a place
@@ -30,14 +30,14 @@ use mathlib.Core.Logic.{_⊎_, _≢_}
 use mathlib.Core.List.{List, [], _∷_, _++_}
 use Prim.Native.Nat.{ℕ, _/_, _%_, _≤_, _<_}
 use lib.ListN.{length}
-use Rattle.hall.specs.declared.Fault.the-variants.{BadCount, BadLane, OffFloor, SameEnds, SharedEnd}
+use Rattle.hall.specs.declared.Fault.the-variants.{BadCount, BadLane, OffFloor, SameEnds}
 use Rattle.hall.specs.declared.Fault.the-variants.{BadOrder, Unreachable, ShortTable, NoCarrier}
 use Rattle.hall.specs.declared.Fault.the-variants.{NotShortest}
 use Rattle.hall.specs.Limits.{nodeLimit, laneLimit, carrierLimit}
 use Rattle.hall.specs.Floor.{NoWalk, Network, laneCount, floor}
 use Rattle.hall.specs.Job.{Numbers, carriers, moveCount, startIn, goalIn}
 use Rattle.hall.specs.Stages.{_when_, Stage, Question, asked, only-at, at-each}
-use Rattle.hall.specs.Refusals.{LaneFault, OffFloor-at, SharedEnd-at, BadOrder-at}
+use Rattle.hall.specs.Refusals.{LaneFault, OffFloor-at, BadOrder-at}
 
 -- ---- the stages
 
@@ -64,7 +64,7 @@ ends N start goal =
     OffFloor when (λ i. OffFloor-at N (start i) (goal i)) ∷ SameEnds when (λ i. start i ≡ goal i) ∷ []
 
 abbrev pub moveChecks : Network → List ℕ → Stage
-moveChecks N moves = ends N (startIn moves) (goalIn moves) ++ (SharedEnd when SharedEnd-at moves ∷ [])
+moveChecks N moves = ends N (startIn moves) (goalIn moves)
 
 abbrev pub eachMove : Network → List ℕ → Stage
 eachMove N moves = at-each (moveCount moves) (moveChecks N moves)

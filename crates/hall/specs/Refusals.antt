@@ -1,10 +1,10 @@
--- When each of the faults 3 to 7 holds of an entry, exactly (rules 8.3 to 8.7). Which question asks for
--- which, in which order and at which places, is said in Questions.antt.
+-- When the faults 3, 4 and 7 hold of an entry, exactly (rules 8.3, 8.4 and 8.7). Fault 5, which compares two
+-- numbers, stands in its stage. Which question asks for which, in which order and at which places, is said in
+-- Questions.antt.
 --     Exceeds         lane k stands above lane j in the rising order of (lower, higher)
 --     LaneFault       3, at lane k: a number of it is no node, its higher node stands first or one node
 --                     twice, or it does not exceed its predecessor
 --     OffFloor-at     4, of one move: its start or its goal is no node
---     SharedEnd-at    6, at carrier i: a lower-numbered carrier begins where it does, or ends where it does
 --     BadOrder-at     7, at place p: it names a carrier that is not there, or one that an earlier place names
 use mathlib.Core.Path.{_≡_}
 use mathlib.Core.Logic.{_⊎_}
@@ -12,7 +12,6 @@ use mathlib.Core.List.{List}
 use Prim.Native.Nat.{ℕ, _+_, _≤_, _<_}
 use lib.ListN.{getD}
 use Rattle.hall.specs.Floor.{Network, lower, higher}
-use Rattle.hall.specs.Job.{startIn, goalIn}
 
 pub data Exceeds (lanes : List ℕ) (k j : ℕ) : Type 0 where
   by-lower : lower lanes j < lower lanes k → Exceeds lanes k j
@@ -25,11 +24,6 @@ pub data LaneFault (N : Network) (k : ℕ) : Type 0 where
 
 abbrev pub OffFloor-at : Network → (s g : ℕ) → Type 0
 OffFloor-at N s g = (N .nodes ≤ s) ⊎ (N .nodes ≤ g)
-
-pub record SharedEnd-at (moves : List ℕ) (i : ℕ) : Type 0 where
-  pub earlier : ℕ
-  pub before : earlier < i
-  pub shares : (startIn moves earlier ≡ startIn moves i) ⊎ (goalIn moves earlier ≡ goalIn moves i)
 
 pub data BadOrder-at (count : ℕ) (order : List ℕ) (p : ℕ) : Type 0 where
   no-carrier : count ≤ getD order p 0 → BadOrder-at count order p

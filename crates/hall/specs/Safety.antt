@@ -6,9 +6,13 @@
 --                 the order starts at 0; no other starts later than one tick after the latest goal tick among
 --                 those before it. That this holds of every choice is the quantifier of `plan-safe`
 --                 (proofs/Demand.antt)
+--     Demand3OfTwo    what demand 3 says of two carriers, whether they share a start, a goal, both or
+--                 neither: they neither meet nor cross; with one start their start ticks differ, and with one
+--                 goal their goal ticks do; each stands at its goal at its goal tick and at no other. What it
+--                 says of one carrier or of the order besides, `Demand3` has
 --     Within      the limits of start ticks, goal ticks and cost
 use mathlib.Core.Path.{_≡_}
-use mathlib.Core.Logic.{_≢_}
+use mathlib.Core.Logic.{_↔_, _≢_}
 use mathlib.Core.List.{List}
 use Prim.Native.Nat.{ℕ, _+_, _≤_, _<_}
 use lib.ListN.{length, getD}
@@ -32,6 +36,14 @@ pub record Demand3 (F : Floor) (k : ℕ) (start goal : ℕ → ℕ) (t : Tables)
   pub absent : (i : ℕ) → i < k → (x v : ℕ) → At (path i) (tick i) x v → (tick i ≤ x) × (x ≤ tick i + own t i)
   pub first-at-0 : 0 < length order → tick (getD order 0 0) ≡ 0
   pub bound : (q : ℕ) → q < length order → tick (getD order q 0) ≤ latest order (goalTick t tick) q + 1
+
+pub record Demand3OfTwo (start goal : ℕ → ℕ) (t : Tables) (tick : ℕ → ℕ) (path : ℕ → List ℕ) (i j : ℕ)
+    : Type 0 where
+  pub apart : Apart path tick i j
+  pub start-ticks-differ : start i ≡ start j → tick i ≢ tick j
+  pub goal-ticks-differ : goal i ≡ goal j → goalTick t tick i ≢ goalTick t tick j
+  pub first-at-goal : (x : ℕ) → At (path i) (tick i) x (goal i) ↔ (x ≡ goalTick t tick i)
+  pub second-at-goal : (x : ℕ) → At (path j) (tick j) x (goal j) ↔ (x ≡ goalTick t tick j)
 
 pub record Within (k : ℕ) (t : Tables) (tick : ℕ → ℕ) (cost : ℕ) : Type 0 where
   pub start-ticks : (i : ℕ) → i < k → tick i ≤ startLimit

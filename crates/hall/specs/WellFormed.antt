@@ -1,5 +1,6 @@
--- What the rules say of a job in positive words (rules 1.1, 1.2, 2.1 to 2.4, 3.1, 3.2, 3.7 and 3.8), in one
--- record. A job from numbers is like this exactly if none of the checks 2 to 7 holds of it: `well-formed-iff`
+-- What the rules say of a job in positive words (rules 1.1, 1.2, 2.1 to 2.4, 3.1, 3.7 and 3.8), in one
+-- record. Of two moves together nothing is said: they may share a start, a goal or both (rule 3.2). A job
+-- from numbers is like this exactly if none of the checks 2 to 7 holds of it: `well-formed-iff`
 -- (proofs/WellFormed.antt). So the checks refuse nothing that the rules allow, and let nothing else pass.
 --     WellFormedNetwork N   the node count and the lanes are as the rules say. That no lane stands twice
 --                           follows: `none-twice`
@@ -30,9 +31,6 @@ pub record WellFormed (j : Numbers) : Type 0 where
   -- each move's start and goal are nodes, and differ
   pub ends-on : EndsOn (floor (j .network)) (j .moves)
   pub ends-differ : (i : ℕ) → i < carriers j → start j i ≢ goal j i
-  -- different moves have different starts, and different goals
-  pub starts-differ : (i k : ℕ) → i < carriers j → k < carriers j → i ≢ k → start j i ≢ start j k
-  pub goals-differ : (i k : ℕ) → i < carriers j → k < carriers j → i ≢ k → goal j i ≢ goal j k
   -- the order has as many places as there are carriers, and lists each of them, each once
   pub order-count : length (j .order) ≡ carriers j
   pub entry : (p : ℕ) → p < length (j .order) → at-place j p < carriers j

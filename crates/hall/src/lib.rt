@@ -79,14 +79,13 @@ impl Place {
     }
 }
 
-// Why a question is refused: one variant for each refusal number, in order.
+// Why a question is refused: one variant for each refusal number in use, in order. 6 is not (rule 8.6).
 pub enum Fault {
     Malformed,
     BadCount,
     BadLane,
     OffFloor,
     SameEnds,
-    SharedEnd,
     BadOrder,
     Unreachable,
     ShortTable,
@@ -105,7 +104,6 @@ impl Fault {
             Fault::BadLane => 3,
             Fault::OffFloor => 4,
             Fault::SameEnds => 5,
-            Fault::SharedEnd => 6,
             Fault::BadOrder => 7,
             Fault::Unreachable => 8,
             Fault::ShortTable => 9,

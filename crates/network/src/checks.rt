@@ -22,7 +22,7 @@ ghost use Rattle.hall.specs.Job.{jobOf};
 ghost use Rattle.hall.specs.Rule.{Answers};
 ghost use Rattle.hall.specs.Stages.{only-at};
 ghost use Rattle.hall.specs.Said.{Judged};
-ghost use Rattle.hall.specs.Refusals.{LaneFault, SharedEnd-at, BadOrder-at};
+ghost use Rattle.hall.specs.Refusals.{LaneFault, BadOrder-at};
 ghost use Rattle.hall.specs.Questions.{counts, eachLane, eachMove, eachOrderPlace};
 ghost use Rattle.hall.specs.Questions.{networkQuestion, checksQuestion, ends, moveEnds};
 
@@ -148,28 +148,6 @@ pub fn check_lanes(nodes: usize, lanes: &[u16]) -> Checked
     Checked::Sound
 }
 
-// 6, at the move i: whether an earlier move has its start or its goal.
-fn shares_end(moves: &[u16], i: usize) -> bool
-    requires { ⌜ i < length (now moves) / 2 ⌝ }
-    ensures { λ r. ⌜ Answers r (SharedEnd-at (now (moves .entry)) i) ⌝ }
-{
-    let at = 2 * i;
-    let start = moves[at];
-    let goal = moves[at + 1];
-    let mut earlier: usize = 0;
-    while earlier < i {
-        let there = 2 * earlier;
-        if moves[there] == start {
-            return true;
-        }
-        if moves[there + 1] == goal {
-            return true;
-        }
-        earlier += 1;
-    }
-    false
-}
-
 // 4 and 5, of one move at the place i: its ends are nodes and differ.
 fn check_ends(nodes: usize, start: usize, goal: usize, i: usize) -> Checked
     ensures { λ r. ⌜ Judged (only-at i (ends (nodesOnly nodes) (λ p. start) (λ p. goal))) r ⌝ }
@@ -186,7 +164,7 @@ fn check_ends(nodes: usize, start: usize, goal: usize, i: usize) -> Checked
     Checked::Sound
 }
 
-// 4 to 6, of the move i: its ends are nodes and differ, and no earlier move has one of them.
+// 4 and 5, of the move i: its ends are nodes and differ. No other move is looked at.
 pub fn check_entry(nodes: usize, moves: &[u16], i: usize) -> Checked
     ensures { λ r. ⌜ Judged (only-at i (eachMove (nodesOnly nodes) (now (moves .entry)))) r ⌝ }
 {
@@ -196,17 +174,10 @@ pub fn check_entry(nodes: usize, moves: &[u16], i: usize) -> Checked
     let at = 2 * i;
     let start = wide(moves[at]);
     let goal = wide(moves[at + 1]);
-    let own = check_ends(nodes, start, goal, i);
-    if let Checked::Refused(_) = own {
-        return own;
-    }
-    if shares_end(moves, i) {
-        return refused(Fault::SharedEnd, i);
-    }
-    Checked::Sound
+    check_ends(nodes, start, goal, i)
 }
 
-// 4 to 6, move by move. The moves are a start and a goal by turns.
+// 4 and 5, move by move. The moves are a start and a goal by turns.
 pub fn check_moves(nodes: usize, moves: &[u16]) -> Checked
     ensures { λ r. ⌜ Judged (eachMove (nodesOnly nodes) (now (moves .entry)) ∷ []) r ⌝ }
 {
@@ -284,7 +255,7 @@ pub fn check_network(nodes: usize, lanes: &[u16]) -> Checked
     check_lanes(nodes, lanes)
 }
 
-// A whole job: its counts (2), its lanes (3), its moves one after the other (4 to 6), its order (7).
+// A whole job: its counts (2), its lanes (3), its moves one after the other (4, 5), its order (7).
 pub fn check_job(nodes: usize, lanes: &[u16], moves: &[u16], order: &[u16]) -> Checked
     ensures { λ r. ⌜ Judged
         (checksQuestion

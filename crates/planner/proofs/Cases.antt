@@ -1,19 +1,20 @@
--- What the rules say of a job is what `plan_moves` answers, for each of P1 to P11 and for every other job
--- with an outcome (hall's Case.antt): lists that are not short leave the question of planning that of the
--- job, a first fault is one, and a plan is one. Assumes nothing.
+-- What the rules say of a job is what `plan_moves` answers, for each of P1 to P11, for the cases of shared
+-- ends (rule 11.14) and for every other job with an outcome (hall's Case.antt): lists that are not short
+-- leave the question of planning that of the job, a first fault is one, and a plan is one. Assumes nothing.
 --     AnsweredAs    what is said is that outcome: the cost, with the ticks that are left by carrier number,
 --                   or the refusal
+--     Answered      whatever is planned of the job of a case is answered as its outcome
 use mathlib.Core.Path.{_≡_, ap}
 use Prim.Native.Nat.{ℕ, _<_}
 use lib.ListN.{length, getD}
 use Rattle.hall.specs.Job.{Numbers, carriers}
 use Rattle.hall.specs.Said.{Said, accepted, refused}
 use Rattle.hall.specs.Plan.{tablesIn}
-use Rattle.hall.specs.Case.{Outcome, Gives, cases}
+use Rattle.hall.specs.Case.{Case, Outcome, Gives, Holds, cases, shared-cases}
 use Rattle.hall.proofs.Stages.{first-unique, none-excludes}
 use Rattle.hall.proofs.Sound.{checks-of-none}
 use Rattle.hall.proofs.PlanLaws.{SamePlan, plan-unique}
-use Rattle.hall.proofs.Cases.{no-case, all-cases}
+use Rattle.hall.proofs.Cases.{no-case, all-cases, all-shared-cases}
 use Rattle.planner.specs.Planning.{Lent, ShortOf, Planning}
 use Rattle.planner.proofs.Faults.{none-of-job, job-first}
 
@@ -36,8 +37,18 @@ module _ (j : Numbers) (before after : Lent) (roomy : ¬ ShortOf before) where
   answers-as (refused n p) (refused m q) g a =
       let e = first-unique (job-first j before roomy (a .first)) g in λ i. refused (e .0 i) (e .1 i)
 
+abbrev pub Answered : Case → Type 0
+Answered c =
+    (before after : Lent) (s : Said ℕ) → ¬ ShortOf before →
+    Planning (c .job) before after s → AnsweredAs (c .job) after s (c .outcome)
+
+answered : (c : Case) → Holds c → Answered c
+answered c h before after s roomy = answers-as (c .job) before after roomy (c .outcome) s h
+
 -- P1 to P11
-pub page-cases : (k : ℕ) → k < length cases → (before after : Lent) (s : Said ℕ) → ¬ ShortOf before →
-    let c = getD cases k no-case in Planning (c .job) before after s → AnsweredAs (c .job) after s (c .outcome)
-page-cases k h before after s roomy =
-    let c = getD cases k no-case in answers-as (c .job) before after roomy (c .outcome) s (all-cases k h)
+pub page-cases : (k : ℕ) → k < length cases → Answered (getD cases k no-case)
+page-cases k h = answered (getD cases k no-case) (all-cases k h)
+
+-- shared lifts and chutes
+pub shared-answered : (k : ℕ) → k < length shared-cases → Answered (getD shared-cases k no-case)
+shared-answered k h = answered (getD shared-cases k no-case) (all-shared-cases k h)
