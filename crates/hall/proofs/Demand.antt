@@ -61,8 +61,8 @@ module _ {F : Floor} {s g d : ℕ} {l : List ℕ} (p : PathOf F s g d l) (t : �
       left : Dist F g g (d - h .gone)
       left = rw (h .node) at (goal-distance p short (h .gone) inside)
 
-  goal-after : At l t (t + d) g
-  goal-after = record { gone = d; time = refl; on-floor = omega (arith, p .size); node = p .ends }
+  pub goal-after : (x : ℕ) → t + d ≡ x → At l t x g
+  goal-after x e = record { gone = d; time = e; on-floor = omega (arith, p .size); node = p .ends }
 
   on-floor-until : (x : ℕ) → t ≤ x → x ≤ t + d → (v : ℕ) × At l t x v
   on-floor-until x a b = (getD l (x - t) 0, record { gone = x - t; time = omega arith; on-floor = omega (arith, p .size); node = refl })
@@ -128,7 +128,7 @@ module _ {F : Floor} (both-ways : Symmetric F) (k : ℕ) (start goal : ℕ → �
   demand-three place = record {
     apart = λ i j hi hj d. listed-apart i j d (place i hi) (place j hj);
     distances = own-distance;
-    at-goal = λ i h. goal-after (own-path i h) (tick i);
+    at-goal = λ i h. goal-after (own-path i h) (tick i) (tick i + own t i) refl;
     only-then = λ i h. goal-only-then (own-path i h) (tick i) (own-distance i h);
     present = λ i h. on-floor-until (own-path i h) (tick i);
     absent = λ i h. off-floor-else (own-path i h) (tick i);

@@ -31,7 +31,7 @@ use Rattle.hall.proofs.Walks.{join, reverse, begins-on-node, ends-on-no
 use Rattle.hall.proofs.Walks.{lanes-symmetric, true-distance}
 use Rattle.hall.proofs.Rules.{forbidden-iff}
 use Rattle.hall.proofs.Safe.{bounded}
-use Rattle.hall.proofs.Demand.{shortest-path, true-pair}
+use Rattle.hall.proofs.Demand.{shortest-path, goal-after, true-pair}
 use Rattle.hall.proofs.Sound.{entry-below}
 
 -- ---- what the rule forbids (rule 4.11)
@@ -104,12 +104,9 @@ module _ {F : Floor} (both-ways : Symmetric F) {p : Pair} (ti tj : ℕ) where
 
 -- ---- where it is forbidden, they meet
 
--- on its path a carrier stands on its start at its start tick, and on its goal at its goal tick
+-- on its path a carrier stands on its start at its start tick, as on its goal at its goal tick (`goal-after`)
 on-start : {F : Floor} {s g d : ℕ} {l : List ℕ} → PathOf F s g d l → (t x : ℕ) → t ≡ x → At l t x s
 on-start p t x e = record { gone = 0; time = omega arith; on-floor = omega (arith, p .size); node = p .begins }
-
-on-goal : {F : Floor} {s g d : ℕ} {l : List ℕ} → PathOf F s g d l → (t x : ℕ) → t + d ≡ x → At l t x g
-on-goal {d = d} p t x e = record { gone = d; time = e; on-floor = omega (arith, p .size); node = p .ends }
 
 module _ {F : Floor} {path path′ : List ℕ} {di dj : ℕ} where
   pub one-start-meets : {s gi gj : ℕ} → PathOf F s gi di path → PathOf F s gj dj path′ → (ti tj : ℕ) →
@@ -126,8 +123,8 @@ module _ {F : Floor} {path path′ : List ℕ} {di dj : ℕ} where
   one-goal-meets {g = g} p q ti tj e = record {
     tick = ti + di;
     node = g;
-    first = on-goal p ti (ti + di) refl;
-    second = on-goal q tj (ti + di) (sym e);
+    first = goal-after p ti (ti + di) refl;
+    second = goal-after q tj (ti + di) (sym e);
   }
 
 -- ---- two carriers (rule 12.3)
@@ -143,8 +140,8 @@ module _ {F : Floor} {k : ℕ} {start goal : ℕ → ℕ} {t : Tables} {order : 
     apart = apart;
     start-ticks-differ = λ s e. apart .0 (one-start-meets (rw s at (on-path i hi)) (on-path j hj) (tick i) (tick j) e);
     goal-ticks-differ = λ g e. apart .0 (one-goal-meets (rw g at (on-path i hi)) (on-path j hj) (tick i) (tick j) e);
-    first-at-goal = λ x. (demand .only-then i hi x, λ e. on-goal (on-path i hi) (tick i) x (sym e));
-    second-at-goal = λ x. (demand .only-then j hj x, λ e. on-goal (on-path j hj) (tick j) x (sym e));
+    first-at-goal = λ x. (demand .only-then i hi x, λ e. goal-after (on-path i hi) (tick i) x (sym e));
+    second-at-goal = λ x. (demand .only-then j hj x, λ e. goal-after (on-path j hj) (tick j) x (sym e));
   }
     where
       apart : Apart path tick i j
