@@ -4,21 +4,20 @@
 // numbers; reading and planning then write its answer into the records, the other two only read them. What is
 // decided, and how many records are written, is decided by the functions on numbers.
 //
-// Working memory here: 260 bytes for the moves of at most 65 records, 384 for the distances and ticks of 64.
-// A job of more than 64 records is refused whatever the moves are, so the 65th tells enough.
+// Working memory here: 260 bytes for the moves of at most 65 records (loaded.rt says why 65), 384 for the
+// distances and ticks of 64.
 ghost use mathlib.Core.Path.{_≡_};
-ghost use Prim.Native.Nat.{_*_, min};
 ghost use denote.Ref.{now};
 ghost use Rattle.hall.specs.Floor.{networkOf};
-ghost use Rattle.hall.specs.Job.{jobOf};
-ghost use Rattle.planner.specs.Planning.{saidPlanned, lent, Planning};
 ghost use Rattle.reader.specs.Reading.{saidRead};
 ghost use Rattle.jobs.specs.Reading.{ReadLeft};
 ghost use Rattle.jobs.specs.Planning.{RecordPlanning};
-ghost use Rattle.jobs.specs.Asking.{HouseGiven, ListGiven, HouseOfRecords, ListOfRecords};
-ghost use Rattle.jobs.specs.Loading.{Beside, Placing, crowd, loaded, storedCount};
-use asks::house_for;
-use asks::judge_for;
+ghost use Rattle.jobs.specs.Asking.{HouseOfRecords, ListOfRecords};
+ghost use Rattle.jobs.specs.Loading.{Beside, Placing, storedCount};
+use crate::loaded::LOADED_NUMBERS;
+use crate::loaded::house_loaded;
+use crate::loaded::judge_loaded;
+use crate::loaded::plan_loaded;
 use hall::Carrier;
 use hall::Checked;
 use hall::Fault;
@@ -26,7 +25,6 @@ use hall::Job;
 use hall::Refusal;
 use path::Housed;
 use planner::Planned;
-use planner::plan_moves;
 use reader::Read;
 use reader::read_numbers;
 use records::Record;
@@ -34,10 +32,7 @@ use records::load_moves;
 use records::store_moves;
 use records::store_times;
 
-// As many records are loaded as a job can have, and one more: it tells that there are too many.
-const LOADED: usize = Job::CARRIERS + 1;
-
-const LOADED_NUMBERS: usize = 2 * LOADED;
+mod loaded;
 
 // ---- reading
 
@@ -98,48 +93,6 @@ pub fn read_job(text: &[u8], lanes: &mut [u16], records: &mut [Record], order: &
 
 // ---- planning
 
-// The smaller of two counts.
-fn fewer(a: usize, b: usize) -> usize
-    ensures { λ r. ⌜ r ≡ min a b ⌝ }
-{
-    if a < b {
-        return a;
-    }
-    b
-}
-
-// How many of `room` numbers are those of the moves of that many records, of 65 at most.
-fn numbers_of(records: usize, room: usize) -> usize
-    ensures { λ r. ⌜ r ≡ min (2 * min records crowd) room ⌝ }
-{
-    let most = fewer(records, LOADED);
-    fewer(2 * most, room)
-}
-
-// The plan of a job of `records` carriers whose moves are loaded.
-fn plan_loaded(
-    nodes: usize,
-    lanes: &[u16],
-    records: usize,
-    moves: &[u16],
-    order: &[u16],
-    table: &mut [u16],
-    distances: &mut [u16],
-    ticks: &mut [u32],
-) -> Planned
-    ensures { λ r. ⌜ Planning
-        (jobOf
-        (networkOf nodes (now (lanes .entry)))
-        (loaded records (now (moves .entry)))
-        (now (order .entry)))
-        (lent (now (table .entry)) (now (distances .entry)) (now (ticks .entry)))
-        (lent (now (table .exit)) (now (distances .exit)) (now (ticks .exit)))
-        (saidPlanned r) ⌝ }
-{
-    let used = numbers_of(records, moves.len());
-    plan_moves(nodes, lanes, &moves[..used], order, table, distances, ticks)
-}
-
 // How many of `records` records planning writes: none after a refusal.
 fn stored_count(answer: Planned, records: usize) -> usize
     ensures { λ r. ⌜ r ≡ storedCount answer records ⌝ }
@@ -188,29 +141,6 @@ pub fn plan(
 
 // ---- one carrier's path
 
-// The house path of one carrier of a job of `records` carriers whose moves are loaded.
-fn house_loaded(
-    nodes: usize,
-    lanes: &[u16],
-    records: usize,
-    moves: &[u16],
-    order: &[u16],
-    carrier: Carrier,
-    path: &mut [u16],
-) -> Housed
-    ensures { λ r. ⌜ HouseGiven
-        (jobOf
-        (networkOf nodes (now (lanes .entry)))
-        (loaded records (now (moves .entry)))
-        (now (order .entry)))
-        (carrier .0)
-        (now (path .entry)) (now (path .exit))
-        r ⌝ }
-{
-    let used = numbers_of(records, moves.len());
-    house_for(nodes, lanes, &moves[..used], order, carrier, path)
-}
-
 // The house path of one carrier of a job, into a list of 1,024 places at least; answers how many nodes it
 // has, or the first refusal.
 pub fn house(
@@ -232,29 +162,6 @@ pub fn house(
     let mut moves = [0u16; LOADED_NUMBERS];
     load_moves(records, &mut moves);
     house_loaded(nodes, lanes, records.len(), &moves, order, carrier, path)
-}
-
-// Whether a list is a shortest path of one carrier of a job of `records` carriers whose moves are loaded.
-fn judge_loaded(
-    nodes: usize,
-    lanes: &[u16],
-    records: usize,
-    moves: &[u16],
-    order: &[u16],
-    carrier: Carrier,
-    list: &[u16],
-) -> Checked
-    ensures { λ r. ⌜ ListGiven
-        (jobOf
-        (networkOf nodes (now (lanes .entry)))
-        (loaded records (now (moves .entry)))
-        (now (order .entry)))
-        (carrier .0)
-        (now (list .entry))
-        r ⌝ }
-{
-    let used = numbers_of(records, moves.len());
-    judge_for(nodes, lanes, &moves[..used], order, carrier, list)
 }
 
 // Whether a proposed list is a shortest path of one carrier of a job.

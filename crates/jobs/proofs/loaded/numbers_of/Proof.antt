@@ -1,7 +1,8 @@
--- `jobs::numbers_of` meets its contract: the smaller of two counts, twice. There is no loop. Assumes nothing.
+-- `jobs::loaded::numbers_of` meets its contract: the smaller of two counts, twice. There is no loop. Assumes
+-- nothing.
 use borrow.Author.Needs.{needs}
-use Rattle.jobs.proofs.numbers_of.Statement.{statement}
-use Rattle.jobs.proofs.numbers_of.Tie as tie
+use Rattle.jobs.proofs.loaded.numbers_of.Statement.{statement}
+use Rattle.jobs.proofs.loaded.numbers_of.Tie as tie
 
 fewer-requires : tie.Need-fewer-requires
 fewer-requires c κs = search needs

@@ -1,12 +1,12 @@
--- `jobs::plan_loaded` meets its contract: the part that is handed on is that of the loaded moves, and what is
--- planned of it is the answer. There is no loop. Assumes nothing.
+-- `jobs::loaded::plan_loaded` meets its contract: the part that is handed on is that of the loaded moves, and
+-- what is planned of it is the answer. There is no loop. Assumes nothing.
 use borrow.Author.Needs.{needs}
 use Rattle.hall.specs.Floor.{networkOf}
 use Rattle.hall.specs.Job.{jobOf}
 use Rattle.planner.specs.Planning.{saidPlanned, lent, Planning}
 use Rattle.jobs.proofs.Loading.{part-length, part-as}
-use Rattle.jobs.proofs.plan_loaded.Statement.{statement}
-use Rattle.jobs.proofs.plan_loaded.Tie as tie
+use Rattle.jobs.proofs.loaded.plan_loaded.Statement.{statement}
+use Rattle.jobs.proofs.loaded.plan_loaded.Tie as tie
 
 numbers-of-requires : tie.Need-numbers-of-requires
 numbers-of-requires c κs = search needs

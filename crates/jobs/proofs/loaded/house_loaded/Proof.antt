@@ -1,12 +1,12 @@
--- `jobs::house_loaded` meets its contract: the part that is handed on is that of the loaded moves, and what
--- is answered of it is the answer. There is no loop. Assumes nothing.
+-- `jobs::loaded::house_loaded` meets its contract: the part that is handed on is that of the loaded moves,
+-- and what is answered of it is the answer. There is no loop. Assumes nothing.
 use borrow.Author.Needs.{needs}
 use Rattle.jobs.specs.Asking.{HouseGiven}
 use Rattle.hall.specs.Floor.{networkOf}
 use Rattle.hall.specs.Job.{jobOf}
 use Rattle.jobs.proofs.Loading.{part-length, part-as}
-use Rattle.jobs.proofs.house_loaded.Statement.{statement}
-use Rattle.jobs.proofs.house_loaded.Tie as tie
+use Rattle.jobs.proofs.loaded.house_loaded.Statement.{statement}
+use Rattle.jobs.proofs.loaded.house_loaded.Tie as tie
 
 numbers-of-requires : tie.Need-numbers-of-requires
 numbers-of-requires c κs = search needs
