@@ -5,11 +5,13 @@
 use crate::batch::Case;
 use crate::job::{Job, Refusal};
 use crate::lent::{self, Lent};
+use crate::lent_write;
 use crate::paths::{
     choose, house_path_of_carrier, house_path_of_move, judge_for_carrier, judge_for_move, Choice,
 };
 use crate::plan::{plan, Plan};
 use crate::text;
+use crate::write;
 
 pub enum Answer {
     Refused(Refusal),
@@ -18,6 +20,8 @@ pub enum Answer {
     /// The plan from numbers: cost, then tick and distance by carrier.
     PlannedNumbers(Plan),
     Read(Job),
+    /// The text of a job that was read, written again.
+    Written(Vec<u8>),
     Path(Vec<u16>),
     Passed,
     Chosen(Choice),
@@ -77,6 +81,9 @@ pub fn answers_to(case: &Case) -> Vec<Answer> {
                     either(judge_for_move(hall, *asked, list), |()| Answer::Passed),
                 ];
             }
+            Case::WriteText { readings, writings, text } => {
+                either(write::read_and_written(*readings, *writings, text), Answer::Written)
+            }
             Case::ReadRecords { lanes, records, order, text } => {
                 Answer::Left(lent::read_to_records(*lanes, *records, *order, text))
             }
@@ -111,6 +118,12 @@ pub fn answers_to(case: &Case) -> Vec<Answer> {
             )),
             Case::ChooseNumbers { asked, own, spare, hall } => {
                 Answer::Left(lent::choice(*asked, own, spare, hall))
+            }
+            Case::WriteNumbers { out, hall, moves, order } => {
+                Answer::Left(lent_write::numbers(*out, hall, moves, order))
+            }
+            Case::WriteRecords { out, job } => {
+                Answer::Left(lent_write::records(*out, &job.hall, &job.records, &job.order))
             }
         };
     vec![one]
@@ -169,6 +182,7 @@ impl Answer {
             Answer::Planned(plan) => printed_plan(plan),
             Answer::PlannedNumbers(plan) => printed_numbers(plan),
             Answer::Read(job) => printed_job(job),
+            Answer::Written(text) => String::from_utf8_lossy(text).into_owned(),
             Answer::Path(nodes) => format!("PATH {}\n{}\n", nodes.len(), spaced(nodes)),
             Answer::Passed => "PASSED\n".to_string(),
             Answer::Chosen(Choice::Own) => "OWN\n".to_string(),

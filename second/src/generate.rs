@@ -1,7 +1,7 @@
 // A batch: all small networks, the systematic faults, trains, the limits, lent
-// tables of all lengths, and as many random cases as asked for. Random cases
-// take turns through every kind and every damage, so that even a short run has
-// some of each.
+// tables of all lengths, as many random cases as asked for, and jobs that are
+// written as texts. Random cases take turns through every kind and every
+// damage, so that even a short run has some of each.
 
 use crate::batch::Case;
 use crate::damage_entries::{Draft, ENTRY_DAMAGES};
@@ -17,12 +17,13 @@ use crate::small::all_small_cases;
 use crate::systematic::systematic_cases;
 use crate::text;
 use crate::trains::train_cases;
+use crate::write_cases::write_cases;
 
 /// Most nodes in a random hall. The limits have cases of their own.
 const MOST_NODES: usize = 64;
 
 /// A text with exactly one damage, the damages taking turns.
-fn one_damage(dice: &mut Dice, turn: usize) -> Vec<u8> {
+pub fn one_damage(dice: &mut Dice, turn: usize) -> Vec<u8> {
     let job = ample_job(dice, 16);
     let mut draft = Draft::of(job);
     let in_group = turn / 3;
@@ -45,7 +46,7 @@ fn one_damage(dice: &mut Dice, turn: usize) -> Vec<u8> {
 }
 
 /// A text with two or more damages on any lines.
-fn several_damages(dice: &mut Dice) -> Vec<u8> {
+pub fn several_damages(dice: &mut Dice) -> Vec<u8> {
     let job = ample_job(dice, 16);
     let mut draft = Draft::of(job);
     for _ in 0..dice.between(1, 3) {
@@ -67,7 +68,7 @@ fn several_damages(dice: &mut Dice) -> Vec<u8> {
 
 /// A text with a fault of value and a fault of form on one line, and perhaps
 /// a fault of value further on.
-fn two_in_one_line(dice: &mut Dice) -> Vec<u8> {
+pub fn two_in_one_line(dice: &mut Dice) -> Vec<u8> {
     let job = ample_job(dice, 16);
     let mut draft = Draft::of(job);
     let line = dice.pick(ENTRY_DAMAGES)(&mut draft, dice);
@@ -78,7 +79,7 @@ fn two_in_one_line(dice: &mut Dice) -> Vec<u8> {
     text::join(&draft.lines)
 }
 
-fn noise(dice: &mut Dice) -> Vec<u8> {
+pub fn noise(dice: &mut Dice) -> Vec<u8> {
     let length = dice.pick(&[0, 1, 2, 7, 8, 9, 60, 1000]);
     if dice.once_in(2) {
         (0..length).map(|_| dice.word() as u8).collect()
@@ -218,5 +219,6 @@ pub fn batch(seed: u64, count: usize) -> Vec<Case> {
     cases.extend(limit_cases(&mut dice));
     cases.extend(lent_cases(&mut dice));
     cases.extend(random_cases(&mut dice, count));
+    cases.extend(write_cases(&mut dice, count));
     cases
 }

@@ -1,11 +1,14 @@
 // What a batch holds: how often each kind of case is accepted and how often
 // it meets each refusal, so that a reader sees at a glance what is missing.
 // Refusal 9 comes only where tables are lent with a length of their own, and
-// the column of 6, which is not in use, has zeros alone.
+// the column of 6, which is not in use, has zeros alone. What was planned and
+// what was written is told in a few lines below the table.
 
 use crate::answers::{answers_to, Answer};
 use crate::batch::{Case, KINDS};
+use crate::histogram_write::Written;
 use crate::job::Move;
+use crate::lent::job_of_lists;
 use crate::paths::Choice;
 use crate::text;
 
@@ -54,8 +57,7 @@ fn planned(case: &Case) -> Option<(u32, Vec<Move>)> {
             Some((job.hall.nodes, job.records.iter().map(|record| record.asked).collect()))
         }
         Case::PlanLists { hall, moves, .. } => {
-            let pairs = moves.chunks_exact(2).map(|two| Move { start: two[0], goal: two[1] });
-            Some((hall.nodes, pairs.collect()))
+            Some((hall.nodes, job_of_lists(hall, moves, &[]).moves))
         }
         _ => None,
     }
@@ -103,7 +105,7 @@ impl Shared {
 
 impl Extra {
     fn note(&mut self, case: &Case, answer: &Answer) {
-        let from_numbers = b"Nnptowj".contains(&case.kind());
+        let from_numbers = b"Nnptowjxy".contains(&case.kind());
         if let Some(refusal) = answer.refusal().filter(|refusal| refusal.number == 2) {
             if from_numbers {
                 self.places[refusal.at] += 1;
@@ -125,6 +127,7 @@ pub fn histogram(cases: &[Case]) -> String {
     let mut rows: Vec<Row> = KINDS.iter().map(|_| Row::default()).collect();
     let mut extra = Extra::default();
     let mut shared = Shared::default();
+    let mut written = Written::default();
     for case in cases {
         let length = case.payload().len();
         extra.bytes += length + 5;
@@ -141,12 +144,13 @@ pub fn histogram(cases: &[Case]) -> String {
                 }
             }
             extra.note(case, &answer);
+            written.note(case, &answer);
         }
     }
-    printed(&rows, &extra, &shared)
+    printed(&rows, &extra, &shared, &written)
 }
 
-fn printed(rows: &[Row], extra: &Extra, shared: &Shared) -> String {
+fn printed(rows: &[Row], extra: &Extra, shared: &Shared, written: &Written) -> String {
     let mut out = "kind   cases accepted".to_string();
     (1..=11).for_each(|number| out += &format!("{:>7}", number));
     for (kind, row) in KINDS.iter().zip(rows) {
@@ -156,6 +160,7 @@ fn printed(rows: &[Row], extra: &Extra, shared: &Shared) -> String {
     out += &format!("\nrefusal 2 from numbers, by place: {:?}", extra.places);
     out += &format!("\nchoices: {} own, {} spare, {} none", extra.own, extra.spare, extra.neither);
     out += &shared.printed();
+    out += &written.printed();
     out + &format!(
         "\nlarge cases (over 8,000 bytes): {}, plans of 64 carriers among them: {}\
          \nbytes: {} in all, {} in the longest payload\n",

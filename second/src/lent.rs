@@ -70,10 +70,10 @@ fn wide(numbers: &[u16]) -> Vec<u32> {
 }
 
 /// The columns of records as they came, with marks behind them.
-struct Columns([Vec<u32>; 4]);
+pub struct Columns([Vec<u32>; 4]);
 
 impl Columns {
-    fn of(records: &[Record]) -> Columns {
+    pub fn of(records: &[Record]) -> Columns {
         let column = |number: fn(&Record) -> u32| {
             let mut places = untouched(RECORD_PLACES);
             for (place, record) in places.iter_mut().zip(records) {
@@ -89,7 +89,7 @@ impl Columns {
         ])
     }
 
-    fn named(self) -> Vec<(&'static str, Vec<u32>)> {
+    pub fn named(self) -> Vec<(&'static str, Vec<u32>)> {
         ["starts", "goals", "distances", "ticks"].into_iter().zip(self.0).collect()
     }
 }
@@ -252,10 +252,14 @@ pub fn plan_records(table: u16, hall: &Hall, records: &[Record], order: &[u16]) 
     Lent { said: said_of_planning(&planned), tables }
 }
 
-/// Planning on numbers: an odd last number of the moves is in no move.
-pub fn plan_lists(lent: [u16; 3], hall: &Hall, moves: &[u16], order: &[u16]) -> Lent {
+/// The job of lists: an odd last number of the moves is in no move.
+pub fn job_of_lists(hall: &Hall, moves: &[u16], order: &[u16]) -> Job {
     let moves = moves.chunks_exact(2).map(|two| Move { start: two[0], goal: two[1] }).collect();
-    let job = Job { hall: hall.clone(), moves, order: order.to_vec() };
+    Job { hall: hall.clone(), moves, order: order.to_vec() }
+}
+
+pub fn plan_lists(lent: [u16; 3], hall: &Hall, moves: &[u16], order: &[u16]) -> Lent {
+    let job = job_of_lists(hall, moves, order);
     let least = [LEAST_TABLE, LEAST_TIMES, LEAST_TIMES];
     let enough = lent.into_iter().zip(least).all(|(length, least)| usize::from(length) >= least);
     let planned = planned_or_short(enough, &job);

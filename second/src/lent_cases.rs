@@ -69,7 +69,7 @@ fn some_lengths<const TABLES: usize>(dice: &mut Dice, rooms: [Room; TABLES]) -> 
 
 /// Texts that are accepted, and one or more for each refusal of reading, with
 /// the fault early and late.
-fn texts(dice: &mut Dice) -> Vec<Vec<u8>> {
+pub fn texts(dice: &mut Dice) -> Vec<Vec<u8>> {
     let full = scattered(dice, 1024, 4096);
     let mut texts: Vec<Vec<u8>> =
         page::cases().iter().map(|(_, job, _)| text::write(job)).collect();
@@ -128,7 +128,7 @@ fn recorded(dice: &mut Dice, job: &Job) -> Recorded {
     Recorded { hall: job.hall.clone(), records, order: job.order.clone() }
 }
 
-fn moves_of(job: &Job) -> Vec<u16> {
+pub fn moves_of(job: &Job) -> Vec<u16> {
     job.moves.iter().flat_map(|asked| [asked.start, asked.goal]).collect()
 }
 

@@ -1,10 +1,12 @@
 // The limit-size jobs of the benchmark, by name: 1,024 nodes and 64 carriers
 // each, and no end is shared. A batch repeats one of them, so that its time is
-// that of planning and not of starting a program.
+// that of planning and not of starting a program. Reading and writing are
+// measured on the longest text that is accepted, many times in each case.
 
 use crate::batch::Case;
 use crate::dice::Dice;
 use crate::halls::{grid, job_apart, line, renumbered, scattered};
+use crate::program_texts::longest_job;
 use crate::text;
 
 pub const NAMES: [&str; 4] = ["line", "grid", "random", "renumbered"];
@@ -21,4 +23,11 @@ pub fn batch(name: &str, count: usize) -> Option<Vec<Case>> {
     };
     let text = text::write(&job_apart(&mut dice, hall, 64, true));
     Some((0..count).map(|_| Case::Plan { text: text.clone() }).collect())
+}
+
+/// A batch of `count` times the longest text, each time with so many further
+/// readings and writings.
+pub fn again(readings: u16, writings: u16, count: usize) -> Vec<Case> {
+    let text = text::write(&longest_job());
+    (0..count).map(|_| Case::WriteText { readings, writings, text: text.clone() }).collect()
 }

@@ -46,7 +46,7 @@ fn long_numbers() -> Hall {
 
 /// The accepted jobs at full size, of many shapes: each shape once with no end
 /// shared and once with ends dealt by dice.
-fn full_jobs(dice: &mut Dice) -> Vec<Job> {
+pub fn full_jobs(dice: &mut Dice) -> Vec<Job> {
     let shuffled_line = renumbered(dice, &line(1024));
     let random_tree = tree(dice, 1024);
     let full = scattered(dice, 1024, 4096);

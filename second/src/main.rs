@@ -6,6 +6,7 @@
 
 mod answers;
 mod batch;
+mod coding;
 mod compare;
 mod damage_entries;
 mod damage_form;
@@ -15,9 +16,11 @@ mod ends;
 mod generate;
 mod halls;
 mod histogram;
+mod histogram_write;
 mod job;
 mod lent;
 mod lent_cases;
+mod lent_write;
 mod limit_size;
 mod limits;
 mod lists;
@@ -25,6 +28,7 @@ mod mistakes;
 mod network;
 mod page;
 mod paths;
+mod payload;
 mod plan;
 mod program_texts;
 mod rule;
@@ -33,11 +37,16 @@ mod selftest;
 mod selftest_lent;
 mod selftest_refusals;
 mod selftest_shared;
+mod selftest_write;
 mod shortest;
 mod small;
 mod systematic;
 mod text;
 mod trains;
+mod write;
+mod write_cases;
+mod write_faults;
+mod write_jobs;
 
 use std::io::{self, Read, Write};
 use std::process::ExitCode;
@@ -47,6 +56,8 @@ const USAGE: &str = "usage:
   second answer FILE                answer every case of a batch file
   second generate SEED COUNT FILE   write a batch file
   second limit NAME COUNT FILE      write a batch that repeats a limit-size job
+  second again READINGS WRITINGS COUNT FILE
+                                    write a batch that reads and writes the longest text
   second split FILE PLAIN MARKED    write the cases of a batch to two, by kind
   second safe FILE                  try all paths of small plans of a batch
   second compare FILE ANSWERS      hold another program's answers to these
@@ -62,7 +73,7 @@ fn print(bytes: &[u8]) -> Result<(), String> {
 
 fn cases_in(path: &str) -> Result<Vec<batch::Case>, String> {
     let file = std::fs::read(path).map_err(|fault| format!("{}: {}", path, fault))?;
-    batch::cases_of(&file).map_err(|fault| format!("{}: {}", path, fault))
+    coding::cases_of(&file).map_err(|fault| format!("{}: {}", path, fault))
 }
 
 fn write_batch(path: &str, cases: &[batch::Case]) -> Result<(), String> {
@@ -73,6 +84,10 @@ fn write_batch(path: &str, cases: &[batch::Case]) -> Result<(), String> {
 
 fn number(word: &str) -> Result<u64, String> {
     word.parse().map_err(|_| format!("{} is no number", word))
+}
+
+fn short(word: &str) -> Result<u16, String> {
+    word.parse().map_err(|_| format!("{} is no number of at most 65,535", word))
 }
 
 fn plan_command() -> Result<bool, String> {
@@ -104,6 +119,12 @@ fn generate_command(seed: &str, count: &str, path: &str) -> Result<bool, String>
 fn limit_command(name: &str, count: &str, path: &str) -> Result<bool, String> {
     let cases = limit_size::batch(name, number(count)? as usize)
         .ok_or_else(|| format!("no job {}; there are {}", name, limit_size::NAMES.join(", ")))?;
+    write_batch(path, &cases)?;
+    Ok(true)
+}
+
+fn again_command(readings: &str, writings: &str, count: &str, path: &str) -> Result<bool, String> {
+    let cases = limit_size::again(short(readings)?, short(writings)?, number(count)? as usize);
     write_batch(path, &cases)?;
     Ok(true)
 }
@@ -167,6 +188,9 @@ fn main() -> ExitCode {
         ["answer", path] => answer_command(path),
         ["generate", seed, count, path] => generate_command(seed, count, path),
         ["limit", name, count, path] => limit_command(name, count, path),
+        ["again", readings, writings, count, path] => {
+            again_command(readings, writings, count, path)
+        }
         ["split", path, plain, marked] => split_command(path, plain, marked),
         ["safe", path] => safe_command(path),
         ["compare", path, answers] => compare_command(path, answers),

@@ -44,17 +44,21 @@ fn sound_of(bytes: usize) -> Vec<u8> {
     }
 }
 
-/// The longest text that is accepted: as many lanes as there may be between
+/// The job with the longest text that is accepted: as many lanes as there may be between
 /// nodes of four digits, the others from three digits to four, 64 moves between
 /// nodes of four digits, which share their ends, and 64 places.
-fn longest() -> Vec<u8> {
+pub fn longest_job() -> Job {
     let high = (1000..1024).flat_map(|lower| (lower + 1..1024).map(move |higher| (lower, higher)));
     let low = (100..1000).flat_map(|lower| (1000..1024).map(move |higher| (lower, higher)));
     let lanes: Vec<(usize, usize)> = high.chain(low).take(4096).collect();
     let around = |node: u16| 1000 + node % 24;
     let one =
         |carrier: u16| Move { start: around(carrier), goal: around(carrier / 24 + carrier + 1) };
-    text::write(&job_over(hall_of(1024, lanes), (0..64).map(one).collect()))
+    job_over(hall_of(1024, lanes), (0..64).map(one).collect())
+}
+
+fn longest() -> Vec<u8> {
+    text::write(&longest_job())
 }
 
 /// A sound text and the same with its end spoiled.

@@ -13,6 +13,7 @@ use crate::rule::Pair;
 use crate::selftest_lent;
 use crate::selftest_refusals;
 use crate::selftest_shared;
+use crate::selftest_write;
 use crate::systematic::PRINTED_JOB;
 use crate::text;
 
@@ -128,6 +129,7 @@ pub fn run() -> (String, bool) {
     selftest_refusals::paths(&mut checks);
     selftest_lent::run(&mut checks);
     selftest_shared::run(&mut checks);
+    selftest_write::run(&mut checks);
     let mut report = checks.failures.join("\n");
     if !report.is_empty() {
         report.push('\n');

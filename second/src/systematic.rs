@@ -18,7 +18,7 @@ pub const PRINTED_JOB: &str = "NODES 5\nLANES 4\n0 1\n1 2\n2 3\n3 4\n\
 /// other four kinds.
 const BYTES: &[u8] = b"0179/: \nANa\r\0\xff";
 
-fn spoiled_bytes(sound: &[u8]) -> Vec<Vec<u8>> {
+pub fn spoiled_bytes(sound: &[u8]) -> Vec<Vec<u8>> {
     let mut texts: Vec<Vec<u8>> = (0..=sound.len()).map(|end| sound[..end].to_vec()).collect();
     for at in 0..sound.len() {
         texts.push([&sound[..at], &sound[at + 1..]].concat());

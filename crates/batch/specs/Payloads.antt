@@ -15,6 +15,8 @@
 --                           are counted by four bytes, behind the four that count its nodes
 --     lanesIn s room        these lane numbers, or as many as there is room for
 --     behindLanes s         what stands behind the lane numbers that are taken
+--     markedRoom            how many bytes the room with marks has: more than an output of a text must have
+--     byteMark              the mark that each of these bytes holds
 use mathlib.Core.List.{List, [], _∷_, _++_}
 use Prim.Native.Nat.{ℕ, zero, suc, _+_, _*_, min}
 use lib.ListN.{length, getD, drop}
@@ -55,3 +57,9 @@ lanesIn s room = shortsIn (drop 8 s) (min (laneCountIn s) room)
 
 abbrev pub behindLanes : List ℕ → List ℕ
 behindLanes s = drop (8 + 2 * laneCountIn s) s
+
+abbrev pub markedRoom : ℕ
+markedRoom = 42100
+
+abbrev pub byteMark : ℕ
+byteMark = 77

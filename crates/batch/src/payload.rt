@@ -1,12 +1,15 @@
 // Numbers and lists of a payload, lowest byte first. What lies past its end reads as 0, so a case that is cut
 // off is answered by what there is of it, and no function here asks anything of its caller.
+use hall::Job;
 ghost use mathlib.Core.Path.{_≡_};
 ghost use Prim.Native.Nat.{min};
 ghost use lib.ListN.{length, take, drop, replicate};
 ghost use denote.Ref.{now};
+ghost use Rattle.hall.specs.Limits.{textRoom};
 ghost use Rattle.batch.specs.Payloads.{byteIn, shortIn, longIn, shortsIn, shortsOver};
 ghost use Rattle.batch.specs.Payloads.{listRoom, listIn, behindList};
 ghost use Rattle.batch.specs.Payloads.{laneRoom, laneCountIn, lanesIn, behindLanes};
+ghost use Rattle.batch.specs.Payloads.{markedRoom, byteMark};
 
 pub fn least(a: usize, b: usize) -> usize
     ensures { λ r. ⌜ r ≡ min a b ⌝ }
@@ -59,6 +62,19 @@ pub fn lane_room() -> [u16; 16384]
     ensures { λ r. ⌜ r ≡ replicate laneRoom 0 ⌝ }
 {
     [0; 16384]
+}
+
+// Room for the text of any job, and a longer one that is full of marks.
+pub fn text_room() -> [u8; Job::TEXT_BYTES]
+    ensures { λ r. ⌜ r ≡ replicate textRoom 0 ⌝ }
+{
+    [0; Job::TEXT_BYTES]
+}
+
+pub fn marked_room() -> [u8; 42100]
+    ensures { λ r. ⌜ r ≡ replicate markedRoom byteMark ⌝ }
+{
+    [77; 42100]
 }
 
 // The front of a list, as much as `count` says and there is.

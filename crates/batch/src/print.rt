@@ -7,8 +7,9 @@ use libc::STDOUT_FILENO;
 use path::Housed;
 use planner::Planned;
 use reader::Read;
+use writer::Written;
 ghost use mathlib.Core.Path.{_≡_};
-ghost use Rattle.batch.specs.Told.{costTold, nodesTold};
+ghost use Rattle.batch.specs.Told.{costTold, nodesTold, bytesTold};
 
 pub fn word(bytes: &[u8]) {
     io::write_all(STDOUT_FILENO, bytes);
@@ -76,6 +77,22 @@ pub fn housed(answer: Housed) -> usize
             count
         }
         Housed::Refused(r) => {
+            refused(r);
+            0
+        }
+    }
+}
+
+// How many bytes the text has, 0 where none is written.
+pub fn written(answer: Written) -> usize
+    ensures { λ r. ⌜ r ≡ bytesTold answer ⌝ }
+{
+    match answer {
+        Written::Bytes(count) => {
+            line(b"BYTES ", count as u64);
+            count
+        }
+        Written::Refused(r) => {
             refused(r);
             0
         }

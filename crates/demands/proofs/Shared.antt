@@ -10,7 +10,7 @@
 --                          both among them
 --     accepted-in-a-row    if all have one start, the carrier at place p starts at tick p
 --     planned-two, planned-in-a-row    the same of the plan that the program owes for a text, and prints
---     read-never-six, plan-never-six, house-never-six, check-never-six    no question answers 6
+--     read-never-six, plan-never-six, house-never-six, check-never-six, write-never-six    no question answers 6
 --     plan-six-never-first    nor do the checks of planning give it, of any job
 --     refused-never-six, six-never-printed    nor do the rules refuse a text with it, so that the program
 --                          never prints it
@@ -48,6 +48,8 @@ use Rattle.form.proofs.LineTests.{front-unique}
 use Rattle.form.proofs.JobTexts.{refused-with}
 use Rattle.reader.specs.declared.Read.{Read}
 use Rattle.reader.specs.Reading.{saidRead}
+use Rattle.writer.specs.declared.Written.{Written}
+use Rattle.writer.specs.Writing.{saidWritten}
 use Rattle.path.specs.declared.Housed.{Housed}
 use Rattle.path.specs.Paths.{saidHoused}
 use Rattle.planner.specs.declared.Planned.{Planned}
@@ -122,6 +124,10 @@ house-never-six (Housed.Refused q) p = never-six q p
 pub check-never-six : (r : Checked) (p : ℕ) → saidChecked r ≢ refused 6 p
 check-never-six Sound p = accepted-never-six tt p
 check-never-six (checked.Refused q) p = never-six q p
+
+pub write-never-six : (r : Written) (p : ℕ) → saidWritten r ≢ refused 6 p
+write-never-six (Written.Bytes size) p = accepted-never-six size p
+write-never-six (Written.Refused q) p = never-six q p
 
 pub plan-six-never-first : (j : Numbers) (table : List ℕ) (p : ℕ) → ¬ First (recordQuestion j table) 6 p
 plan-six-never-first j table p first = first-among (λ n. n ≢ 6) {q = recordQuestion j table} (omega arith) first refl

@@ -5,7 +5,7 @@
 --                   StepTests, Reached, Reading: how a text is decided, line by line
 --                   Lengths, LongTexts, LineNumbers: how long it is, what its first bytes say, its lines
 --     sections      WordTests, Tables, Rows, FirstSections: their words, a reader's table, lists as entries
---     job texts     WrittenJobs, AcceptedJobs, JobTexts, CarrierLines
+--     job texts     WrittenJobs, AcceptedJobs, JobTexts, WholeJobs, CarrierLines
 --     by bytes      Examples
 pub mod Cuts
 pub mod LineForms
@@ -28,5 +28,6 @@ pub mod FirstSections
 pub mod WrittenJobs
 pub mod AcceptedJobs
 pub mod JobTexts
+pub mod WholeJobs
 pub mod CarrierLines
 pub mod Examples

@@ -4,13 +4,15 @@
 --     pairs-back, singles-back      the numbers of the entries are the list's again; ..-count how many
 --                                   entries; ..-rows each has its numbers
 --     rows-pairs, rows-singles      entries with two numbers each, or one, are those of their numbers
+--     pairs-next, singles-next      the entries of the first numbers, and one entry more
+--     pairs-whole                   an odd last number is in no entry, so that the list without it has the same
 --     small-by                      a list's numbers are small, by their places
 --     whole-section, section-whole  a section without a fault, by the checks of its whole list
 use mathlib.Core.Path.{_≡_, refl, ap}
-use mathlib.Core.List.{List, [], _∷_}
-use Prim.Native.Nat.{ℕ, suc, _*_, _/_, _<_}
+use mathlib.Core.List.{List, [], _∷_, _++_}
+use Prim.Native.Nat.{ℕ, zero, suc, _*_, _/_, _%_, _<_}
 use native.Mathlib.Omega.{arith}
-use lib.ListN.{length, getD}
+use lib.ListN.{length, getD, take}
 use Rattle.hall.specs.Stages.{ClearAt}
 use Rattle.form.specs.Lines.{Small}
 use Rattle.form.specs.Sections.{Section, Content, CountFits, due, numbersIn}
@@ -55,6 +57,27 @@ rows-pairs ((a ∷ []) ∷ es) h = absurd (let l = h .0 in let x : ⊥ = omega a
 rows-pairs ((a ∷ b ∷ []) ∷ es) h = let q = rows-pairs es (h .2) in λ i. (a ∷ b ∷ []) ∷ q i
 rows-pairs ((a ∷ b ∷ c ∷ e) ∷ es) h = absurd (let l = h .0 in let x : ⊥ = omega arith in x)
 
+pub pairs-next : (n : ℕ) (l : List ℕ) → n % 2 ≡ 0 → suc n < length l →
+    pairs (take (suc (suc n)) l) ≡ pairs (take n l) ++ ((getD l n 0 ∷ getD l (suc n) 0 ∷ []) ∷ [])
+unfolding pairs
+pairs-next n [] e h = absurd (let x : ⊥ = omega arith in x)
+pairs-next n (a ∷ []) e h = absurd (let x : ⊥ = omega arith in x)
+pairs-next zero (a ∷ b ∷ l) e h = refl
+pairs-next (suc zero) (a ∷ b ∷ l) e h = absurd (let x : ⊥ = omega arith in x)
+pairs-next (suc (suc n)) (a ∷ b ∷ l) e h =
+    let more = pairs-next n l (omega arith) (omega arith) in λ i. (a ∷ b ∷ []) ∷ more i
+
+pub pairs-whole : (n : ℕ) (l : List ℕ) → n ≡ 2 * (length l / 2) → pairs (take n l) ≡ pairs l
+unfolding pairs
+pairs-whole zero [] e = refl
+pairs-whole zero (a ∷ []) e = refl
+pairs-whole zero (a ∷ b ∷ l) e = absurd (let x : ⊥ = omega arith in x)
+pairs-whole (suc n) [] e = refl
+pairs-whole (suc n) (a ∷ []) e = absurd (let x : ⊥ = omega arith in x)
+pairs-whole (suc zero) (a ∷ b ∷ l) e = absurd (let x : ⊥ = omega arith in x)
+pairs-whole (suc (suc n)) (a ∷ b ∷ l) e =
+    let rest = pairs-whole n l (omega arith) in λ i. (a ∷ b ∷ []) ∷ rest i
+
 -- ---- one number a row
 
 pub singles-back : (l : List ℕ) → numbersIn (singles l) ≡ l
@@ -78,6 +101,13 @@ rows-singles [] h = refl
 rows-singles ([] ∷ es) h = absurd (let l = h .0 in let x : ⊥ = omega arith in x)
 rows-singles ((a ∷ []) ∷ es) h = let q = rows-singles es (h .2) in λ i. (a ∷ []) ∷ q i
 rows-singles ((a ∷ b ∷ e) ∷ es) h = absurd (let l = h .0 in let x : ⊥ = omega arith in x)
+
+pub singles-next : (n : ℕ) (l : List ℕ) → n < length l →
+    singles (take (suc n) l) ≡ singles (take n l) ++ ((getD l n 0 ∷ []) ∷ [])
+unfolding singles
+singles-next n [] h = absurd (let x : ⊥ = omega arith in x)
+singles-next zero (a ∷ l) h = refl
+singles-next (suc n) (a ∷ l) h = let more = singles-next n l (omega arith) in λ i. (a ∷ []) ∷ more i
 
 -- ---- a section by its whole list
 

@@ -1,6 +1,6 @@
 -- The checks of an entry (rules 7.9 and 8.3 to 8.7). They are the stages of the questions from numbers, so
--- that a text and a job from numbers cannot be checked differently; what the sections read say stands for the
--- rest of the job.
+-- that an entry of a text and one from numbers cannot be checked differently; what the sections read say
+-- stands for the rest of the job.
 --     checksOf x read l     the checks of entries of the kind x, behind the sections read: entry k is asked
 --                           at place k of the section's numbers l so far, its own the last of them
 use mathlib.Core.List.{List, []}

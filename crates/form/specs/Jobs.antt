@@ -1,8 +1,12 @@
--- The text of a job (rules 7.1, 7.10, 7.13 and 8.21).
+-- The text of a job (rules 7.1, 7.10, 7.13, 7.15 and 8.21).
 --     pairs          a list as entries of two numbers; an odd last number is no entry
 --     singles        a list as entries of one number
 --     contentsOf     what the text of a job says, section by section
+--     textOf         the text of a job: the written form of what it says. Reading and writing both speak of
+--                    it
 --     jobIn          the job that contents say
+--     wholeJob       a job without an odd last number of its moves, which is in no move (rule 1.7);
+--                    `wholeMoves` its moves. Its text is that of the job
 --     WrittenJob     the text is the written form of the job, which has no fault 2 to 7. A line of a move has
 --                    a start and a goal, so the numbers of its moves go by twos (`paired`); from numbers an
 --                    odd last number is in no move (rule 1.7), and no check asks for this
@@ -14,9 +18,9 @@ use mathlib.Core.Path.{_≡_}
 use mathlib.Core.Bool.{cond}
 use mathlib.Core.List.{List, [], _∷_}
 use Prim.Native.Nat.{ℕ, _+_, _*_}
-use lib.ListN.{length}
+use lib.ListN.{length, take}
 use Rattle.hall.specs.Floor.{laneCount, networkOf}
-use Rattle.hall.specs.Job.{Numbers, jobOf}
+use Rattle.hall.specs.Job.{Numbers, jobOf, moveCount}
 use Rattle.hall.specs.Job as job
 use Rattle.hall.specs.Stages.{None}
 use Rattle.hall.specs.Said.{Said, accepted, refused}
@@ -44,11 +48,20 @@ contentsOf j =
     ∷ content ORDER (length (j .order)) (singles (j .order))
     ∷ []
 
+abbrev pub textOf : Numbers → List ℕ
+textOf j = written (contentsOf j)
+
 abbrev pub jobIn : List Content → Numbers
 jobIn c = jobOf (networkOf (countOf NODES c) (numbersOf LANES c)) (numbersOf CARRIERS c) (numbersOf ORDER c)
 
+abbrev pub wholeMoves : List ℕ → List ℕ
+wholeMoves moves = take (2 * moveCount moves) moves
+
+abbrev pub wholeJob : Numbers → Numbers
+wholeJob j = jobOf (j .network) (wholeMoves (j .moves)) (j .order)
+
 pub record WrittenJob (text : List ℕ) (j : Numbers) : Type 0 where
-  pub writes : text ≡ written (contentsOf j)
+  pub writes : text ≡ textOf j
   pub sound : None (checksQuestion j)
   pub paired : length (j .moves) ≡ 2 * job.carriers j
 

@@ -1,5 +1,6 @@
 -- Sections as data, and what has been read of them (rules 7.1 and 8.2). Which sections a job text has is said
--- in JobText.antt, which checks an entry has in Entries.antt; to add a section is to add to these two.
+-- in JobText.antt, which checks an entry has in Entries.antt, and what a job says in each in Jobs.antt; to
+-- add a section is to add to these, with its word (Words.antt) and the kind of its entries (`Entry`).
 --     Limits         which counts fit: from a least to a greatest one; or the count of an earlier section, at
 --                    most a greatest one
 --     Entry          what the entries of a section are: there are none, or lanes, moves, places of the order

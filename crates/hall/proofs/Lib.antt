@@ -4,7 +4,7 @@
 --     the floor     Walks, Lists, LaneList, Paths, Pigeon, Labels, FloorTests, Decide, House
 --     the rule      Rules, Ranges, Safe, Ticks, TickTests
 --     refusals      Numbers, Stages, Moves, Compose, Places, Crowded, StageTests, FaultTests, Complete,
---                   Sound, WellFormed
+--                   Sound, WellFormed, Writing
 --     plans         Demand, Shared, PlanLaws, Exist, Summit
 --     P1 to P11     JobTests, Cases, CaseRemarks, Outcomes
 pub mod Ints
@@ -40,6 +40,7 @@ pub mod House
 pub mod Exist
 pub mod Complete
 pub mod WellFormed
+pub mod Writing
 pub mod Summit
 pub mod Answers
 pub mod JobTests

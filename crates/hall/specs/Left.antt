@@ -1,8 +1,8 @@
--- What is left in a lent table (rules 9.1 to 9.6, 9.9, 9.11 and 9.13).
+-- What is left in a lent table (rules 9.1 to 9.6, 9.9, 9.11, 9.13 and 9.14).
 --     zeroed n t     the table t with its first n places zero, all of them where it is shorter; beyond it is
 --                    as it came
 --     filled         numbers in front of a table, zeros behind them up to its least length, and beyond it
---                    what stood there
+--                    what stood there. It is said of tables that have their least length
 --     left k n t     a table of least length n after the refusal with the number k: 9 leaves it as it came,
 --                    every other zeroes the least length. Where the rules say otherwise, as of records and
 --                    order after planning, the question's own promise does

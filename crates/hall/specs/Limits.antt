@@ -9,6 +9,8 @@
 --     blockLength     a place for every two carriers
 --     tableLength     three such blocks: the distance table
 --     goalBlock       where the third of them begins
+--     textRoom        so many bytes hold the text of any job without faults 2 to 7 (rule 7.6); the least
+--                     length of the output of writing
 --     distanceLimit   no distance is greater: a shortest path goes over no node twice
 --     startLimit      no start tick is greater: 63 carriers before it, each gone 1,024 ticks later at most
 --     goalLimit       no goal tick is greater: a start tick and a distance
@@ -43,6 +45,9 @@ tableLength = 12288
 
 abbrev pub goalBlock : ℕ
 goalBlock = 8192
+
+abbrev pub textRoom : ℕ
+textRoom = 42000
 
 abbrev pub distanceLimit : ℕ
 distanceLimit = 1023

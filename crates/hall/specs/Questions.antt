@@ -1,5 +1,5 @@
 -- Every question from numbers as its list of stages, in the order in which its checks are made (rules 8.22 to
--- 8.29). To change an order, or to add a check, is to change a list here. What a question adds of its own
+-- 8.30). To change an order, or to add a check, is to change a list here. What a question adds of its own
 -- comes in as a statement: `Short`, that a table lent to be filled lacks places; `Unfit`, that the list put
 -- forward is none of the shortest paths.
 --     nodesCount, lanesCount, carriersCount, orderCount    2, each count at its place: 0, 1, 2 and 3. The
@@ -19,6 +19,7 @@
 --     checksQuestion     the listed checks of a job: 2 to 7
 --     jobQuestion        a job: 2 to 8
 --     planning           9, then those of the job
+--     writing            9, then the listed checks of the job; no walk is asked for
 --     moveEnds           2, 3, 4, 5: a network and one move, whose place is 0
 --     moveQuestion       the same with 8
 --     houseOfMove, listOfMove    the house path and the question about one list, with a network and a move
@@ -112,6 +113,9 @@ jobQuestion j = checksQuestion j ++ (eachWalk (j .network) (j .moves) ∷ [])
 
 abbrev pub planning : (Short : Type 0) → Numbers → Question
 planning Short j = shortTable Short ∷ jobQuestion j
+
+abbrev pub writing : (Short : Type 0) → Numbers → Question
+writing Short j = shortTable Short ∷ checksQuestion j
 
 -- ---- one move
 

@@ -33,6 +33,9 @@ impl Job {
 
     pub const TABLE: usize = 3 * Job::BLOCK;
 
+    // So many bytes hold the text of any job that is written: the least length of its output.
+    pub const TEXT_BYTES: usize = 42000;
+
     // What stands for "no walk" in the place of a distance.
     pub const NO_WALK: u16 = 65535;
 

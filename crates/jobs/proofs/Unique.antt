@@ -4,7 +4,8 @@
 -- came in; a refusal is the first fault, and decides what is left. A job is not both accepted and refused.
 -- What is left of a house path is one, whatever question it answers (path's `left-unique`). Lists that are
 -- only read are as they came. Assumes nothing.
---     read-job-unique, plan-unique, house-unique, judge-unique     one theorem for each public function
+--     read-job-unique, plan-unique, write-unique, house-unique, judge-unique    one theorem for each public
+--                                                                               function
 use mathlib.Core.Path.{_≡_, sym, _∙_, ap}
 use mathlib.Core.Bool.{true}
 use mathlib.Core.List.{List}
@@ -42,11 +43,14 @@ use Rattle.planner.specs.declared.Planned.{Planned}
 use Rattle.planner.specs.declared.Planned.the-variants.{Cost, Refused}
 use Rattle.planner.specs.Planning.{saidPlanned}
 use Rattle.planner.proofs.Outcome.{filling-served}
+use Rattle.writer.specs.declared.Written.{Written}
+use Rattle.writer.proofs.Unique.{writing-unique}
 use Rattle.jobs.specs.Job.{recordJob}
 use Rattle.jobs.specs.Reading.{ReadLeft}
 use Rattle.jobs.specs.Planning.{recordQuestion, tickOf, RecordsPlanned, RecordsRefused, GivenRecords}
 use Rattle.jobs.specs.Planning.{RecordPlanning}
 use Rattle.jobs.specs.Asking.{RecordsKept, HouseOfRecords, ListOfRecords}
+use Rattle.jobs.specs.Writing.{RecordWriting}
 use Rattle.jobs.proofs.ReadExactly.{reading-unique}
 
 -- ---- reading
@@ -137,19 +141,31 @@ module _ (N : Network) (records : List Record) (order table : List ℕ) where
       let e = given-unique rs qs t u r s (a .given) (b .given) in
       (e .0, a .network-kept ∙ sym (b .network-kept), e .1, a .order-kept ∙ sym (b .order-kept), e .2)
 
+-- ---- what is only read is as it came
+
+kept-same : {N M O : Network} {records rs qs : List Record} {order o p : List ℕ} →
+    RecordsKept N M records rs order o → RecordsKept N O records qs order p →
+    (M ≡ O) × (rs ≡ qs) × (o ≡ p)
+kept-same a b = (
+  a .network-kept ∙ sym (b .network-kept),
+  a .records-kept ∙ sym (b .records-kept),
+  a .order-kept ∙ sym (b .order-kept),
+)
+
+-- ---- writing
+
+module _ (N : Network) (records : List Record) (order : List ℕ) (M O : Network) (rs qs : List Record)
+    (o p : List ℕ) where
+  pub write-unique : (out t u : List ℕ) (r s : Written) →
+      RecordWriting N M records rs order o out t r → RecordWriting N O records qs order p out u s →
+      ((r ≡ s) × (t ≡ u)) × ((M ≡ O) × (rs ≡ qs) × (o ≡ p))
+  write-unique out t u r s a b =
+      (writing-unique (recordJob N records order) out r s t u (a .given) (b .given), kept-same (a .kept) (b .kept))
+
 -- ---- one carrier's path
 
 module _ (N : Network) (records : List Record) (order : List ℕ) (c : ℕ) (M O : Network) (rs qs : List Record)
     (o p : List ℕ) where
-  -- what is only read is as it came
-  kept-same : RecordsKept N M records rs order o → RecordsKept N O records qs order p →
-      (M ≡ O) × (rs ≡ qs) × (o ≡ p)
-  kept-same a b = (
-    a .network-kept ∙ sym (b .network-kept),
-    a .records-kept ∙ sym (b .records-kept),
-    a .order-kept ∙ sym (b .order-kept),
-  )
-
   pub house-unique : (path t u : List ℕ) (r s : Housed) →
       HouseOfRecords N M records rs order o c path t r → HouseOfRecords N O records qs order p c path u s →
       ((r ≡ s) × (t ≡ u)) × ((M ≡ O) × (rs ≡ qs) × (o ≡ p))

@@ -3,5 +3,6 @@ pub mod Job
 pub mod Reading
 pub mod Planning
 pub mod Asking
+pub mod Writing
 pub mod Loading
 pub mod Demands

@@ -1,8 +1,9 @@
 // Every question that takes a whole job, with the carriers' records lent as one list by carrier number:
-// reading a job text into lent tables, planning, and the questions about one carrier's path. Each takes every
-// input. These functions are thin: they carry the records to a local list of numbers and ask a function on
-// numbers; reading and planning then write its answer into the records, the other two only read them. What is
-// decided, and how many records are written, is decided by the functions on numbers.
+// reading a job text into lent tables, writing a job as its text, planning, and the questions about one
+// carrier's path. Each takes every input. These functions are thin: all but reading carry the records to a
+// local list of numbers, each asks a function on numbers, and reading and planning write its answer into the
+// records; the others only read them. The functions on numbers decide what is answered and how many records
+// are written.
 //
 // Working memory here: 260 bytes for the moves of at most 65 records (loaded.rt says why 65), 384 for the
 // distances and ticks of 64.
@@ -11,6 +12,7 @@ ghost use denote.Ref.{now};
 ghost use Rattle.hall.specs.Floor.{networkOf};
 ghost use Rattle.reader.specs.Reading.{saidRead};
 ghost use Rattle.jobs.specs.Reading.{ReadLeft};
+ghost use Rattle.jobs.specs.Writing.{RecordWriting};
 ghost use Rattle.jobs.specs.Planning.{RecordPlanning};
 ghost use Rattle.jobs.specs.Asking.{HouseOfRecords, ListOfRecords};
 ghost use Rattle.jobs.specs.Loading.{Beside, Placing, storedCount};
@@ -18,6 +20,7 @@ use crate::loaded::LOADED_NUMBERS;
 use crate::loaded::house_loaded;
 use crate::loaded::judge_loaded;
 use crate::loaded::plan_loaded;
+use crate::loaded::write_loaded;
 use hall::Carrier;
 use hall::Checked;
 use hall::Fault;
@@ -31,6 +34,7 @@ use records::Record;
 use records::load_moves;
 use records::store_moves;
 use records::store_times;
+use writer::Written;
 
 mod loaded;
 
@@ -89,6 +93,29 @@ pub fn read_job(text: &[u8], lanes: &mut [u16], records: &mut [Record], order: &
     let count = placed_count(lanes.len(), records.len(), order.len());
     store_moves(records, count, &moves);
     answer
+}
+
+// ---- writing
+
+// Writes a job as its text, to the front of an output of 42,000 bytes at least; answers how many bytes the
+// text has, or the first refusal. What is left in the output is as `writer::write_numbers` leaves it.
+pub fn write_job(
+    nodes: usize,
+    lanes: &[u16],
+    records: &[Record],
+    order: &[u16],
+    out: &mut [u8],
+) -> Written
+    ensures { λ r. ⌜ RecordWriting
+        (networkOf nodes (now (lanes .entry))) (networkOf nodes (now (lanes .exit)))
+        (now (records .entry)) (now (records .exit))
+        (now (order .entry)) (now (order .exit))
+        (now (out .entry)) (now (out .exit))
+        r ⌝ }
+{
+    let mut moves = [0u16; LOADED_NUMBERS];
+    load_moves(records, &mut moves);
+    write_loaded(nodes, lanes, records.len(), &moves, order, out)
 }
 
 // ---- planning

@@ -1,7 +1,7 @@
 // The questions on a job whose moves are loaded: functions on numbers, for this crate alone. How many records
 // there are comes beside the list of their moves, and the part of the list that is handed on is theirs: its
-// length tells the crates `planner` and `asks` how many carriers the job has. Every input is taken, and
-// nothing is decided here.
+// length tells the crates `planner`, `asks` and `writer` how many carriers the job has. Every input is taken,
+// and nothing is decided here.
 //
 // The list that is loaded is working memory of the caller: 260 bytes, for the moves of 65 records, one more
 // than a job can have. A job of more than 64 records is refused whatever the moves are, so the 65th tells
@@ -12,6 +12,7 @@ ghost use denote.Ref.{now};
 ghost use Rattle.hall.specs.Floor.{networkOf};
 ghost use Rattle.hall.specs.Job.{jobOf};
 ghost use Rattle.planner.specs.Planning.{saidPlanned, lent, Planning};
+ghost use Rattle.writer.specs.Writing.{saidWritten, Writing};
 ghost use Rattle.jobs.specs.Asking.{HouseGiven, ListGiven};
 ghost use Rattle.jobs.specs.Loading.{crowd, loaded};
 use asks::house_for;
@@ -22,6 +23,8 @@ use hall::Job;
 use path::Housed;
 use planner::Planned;
 use planner::plan_moves;
+use writer::Written;
+use writer::write_numbers;
 
 // As many records are loaded as a job can have, and one more: it tells that there are too many.
 const LOADED: usize = Job::CARRIERS + 1;
@@ -114,4 +117,25 @@ pub(crate) fn judge_loaded(
 {
     let used = numbers_of(records, moves.len());
     judge_for(nodes, lanes, &moves[..used], order, carrier, list)
+}
+
+// The text of a job of `records` carriers whose moves are loaded.
+pub(crate) fn write_loaded(
+    nodes: usize,
+    lanes: &[u16],
+    records: usize,
+    moves: &[u16],
+    order: &[u16],
+    out: &mut [u8],
+) -> Written
+    ensures { λ r. ⌜ Writing
+        (jobOf
+        (networkOf nodes (now (lanes .entry)))
+        (loaded records (now (moves .entry)))
+        (now (order .entry)))
+        (now (out .entry)) (now (out .exit))
+        (saidWritten r) ⌝ }
+{
+    let used = numbers_of(records, moves.len());
+    write_numbers(nodes, lanes, &moves[..used], order, out)
 }

@@ -2,7 +2,7 @@
 -- the records that it leaves of those lent are one list, and with those behind, which the numbers decide, so
 -- is what is written back. Assumes nothing.
 --     lending-unique     the numbers that are written back are one list, where what the question leaves is
---     read-lent-unique, plan-lent-unique, house-lent-unique, judge-lent-unique
+--     read-lent-unique, plan-lent-unique, house-lent-unique, judge-lent-unique, write-lent-unique
 --                        one theorem for each public function: answers, tables and numbers
 use mathlib.Core.Path.{_≡_, sym, ap, _∙_}
 use mathlib.Core.List.{List, _++_}
@@ -13,9 +13,10 @@ use Rattle.records.specs.declared.Record.{Record}
 use Rattle.reader.specs.declared.Read.{Read}
 use Rattle.path.specs.declared.Housed.{Housed}
 use Rattle.planner.specs.declared.Planned.{Planned}
-use Rattle.jobs.proofs.Unique.{read-job-unique, plan-unique, house-unique, judge-unique}
+use Rattle.writer.specs.declared.Written.{Written}
+use Rattle.jobs.proofs.Unique.{read-job-unique, plan-unique, house-unique, judge-unique, write-unique}
 use Rattle.lent.specs.Lent.{frontOf, backOf, toldTo, Lending}
-use Rattle.lent.specs.Lent.{LentReading, LentPlanning, LentHouse, LentList}
+use Rattle.lent.specs.Lent.{LentReading, LentPlanning, LentHouse, LentList, LentWriting}
 
 pub lending-unique : (A B : (records left : List Record) → Type 0) (count : ℕ) (fields f g : List ℕ)
     (a : Lending A count fields f) (b : Lending B count fields g) → a .left ≡ b .left → f ≡ g
@@ -59,4 +60,12 @@ module _ (count : ℕ) (fields f g : List ℕ) where
         → (r ≡ s) × (M ≡ O) × (o ≡ p) × (t ≡ u) × (f ≡ g)
     judge-lent-unique c list t u r s a b =
         let e = judge-unique N front order c M O (a .left) (b .left) o p list t u r s (a .asked) (b .asked) in
+        (e .0 .0, e .1 .0, e .1 .2, e .0 .1, lending-unique _ _ count fields f g a b (e .1 .1))
+
+    pub write-lent-unique : (out t u : List ℕ) (r s : Written)
+        → LentWriting N M count order o out t fields f r
+        → LentWriting N O count order p out u fields g s
+        → (r ≡ s) × (M ≡ O) × (o ≡ p) × (t ≡ u) × (f ≡ g)
+    write-lent-unique out t u r s a b =
+        let e = write-unique N front order M O (a .left) (b .left) o p out t u r s (a .asked) (b .asked) in
         (e .0 .0, e .1 .0, e .1 .2, e .0 .1, lending-unique _ _ count fields f g a b (e .1 .1))

@@ -17,7 +17,8 @@
 --     Lending         a question that leaves of lent records what `Asked` says is asked with the front, and
 --                     what it leaves and what stood behind is written to the numbers
 --     LentReading     reading a job text is asked so; LentPlanning planning; LentHouse the house path of a
---                     carrier; LentList whether a list is a shortest path of a carrier
+--                     carrier; LentList whether a list is a shortest path of a carrier; LentWriting writing a
+--                     job as its text
 use mathlib.Core.Path.{_≡_}
 use mathlib.Core.List.{List, [], _∷_, _++_}
 use Prim.Native.Nat.{ℕ, zero, suc, _+_, _*_, min}
@@ -28,9 +29,11 @@ use Rattle.records.specs.declared.Record.{Record}
 use Rattle.reader.specs.declared.Read.{Read}
 use Rattle.path.specs.declared.Housed.{Housed}
 use Rattle.planner.specs.declared.Planned.{Planned}
+use Rattle.writer.specs.declared.Written.{Written}
 use Rattle.jobs.specs.Reading.{ReadLeft}
 use Rattle.jobs.specs.Planning.{RecordPlanning}
 use Rattle.jobs.specs.Asking.{HouseOfRecords, ListOfRecords}
+use Rattle.jobs.specs.Writing.{RecordWriting}
 
 abbrev pub lendable : ℕ
 lendable = 80
@@ -110,4 +113,10 @@ abbrev pub LentList : (N N′ : Network) (count : ℕ) (order order′ : List �
     (list list′ fields fields′ : List ℕ) → Checked → Type 0
 LentList N N′ count order order′ c list list′ fields fields′ r =
     Lending (λ records left. ListOfRecords N N′ records left order order′ c list list′ r)
+    count fields fields′
+
+abbrev pub LentWriting : (N N′ : Network) (count : ℕ) (order order′ : List ℕ)
+    (out out′ fields fields′ : List ℕ) → Written → Type 0
+LentWriting N N′ count order order′ out out′ fields fields′ r =
+    Lending (λ records left. RecordWriting N N′ records left order order′ out out′ r)
     count fields fields′

@@ -16,17 +16,19 @@ ghost use lib.ListN.{set};
 ghost use denote.Ref.{now};
 ghost use Rattle.hall.specs.Floor.{networkOf};
 ghost use Rattle.lent.specs.Lent.{lendable, halfOf, numberIn, recordFrom, madeOf, tellTo, toldTo};
-ghost use Rattle.lent.specs.Lent.{LentReading, LentPlanning, LentHouse, LentList};
+ghost use Rattle.lent.specs.Lent.{LentReading, LentPlanning, LentHouse, LentList, LentWriting};
 use hall::Carrier;
 use hall::Checked;
 use jobs::house;
 use jobs::judge;
 use jobs::plan;
 use jobs::read_job;
+use jobs::write_job;
 use path::Housed;
 use planner::Planned;
 use reader::Read;
 use records::Record;
+use writer::Written;
 
 // How many records are made, and how long a column is.
 const LENDABLE: usize = 80;
@@ -229,6 +231,30 @@ pub fn judge_lent(
     let records = made(fields);
     let n = within(count);
     let answer = judge(nodes, lanes, &records[..n], order, carrier, list);
+    told(records, fields);
+    answer
+}
+
+// `jobs::write_job` with the first `count` records lent.
+pub fn write_lent(
+    nodes: usize,
+    lanes: &[u16],
+    count: usize,
+    order: &[u16],
+    out: &mut [u8],
+    fields: &mut [u32],
+) -> Written
+    ensures { λ r. ⌜ LentWriting
+        (networkOf nodes (now (lanes .entry))) (networkOf nodes (now (lanes .exit)))
+        count
+        (now (order .entry)) (now (order .exit))
+        (now (out .entry)) (now (out .exit))
+        (now (fields .entry)) (now (fields .exit))
+        r ⌝ }
+{
+    let records = made(fields);
+    let n = within(count);
+    let answer = write_job(nodes, lanes, &records[..n], order, out);
     told(records, fields);
     answer
 }

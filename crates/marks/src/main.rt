@@ -1,11 +1,12 @@
-// Answers the cases of a batch on standard input that lend tables full of marks, of given lengths, and prints
-// the answer and then all that the tables hold: what lies past the part that was lent too. So what a question
-// leaves in each place can be compared with the second planner. The other kinds are answered by the program
-// `vectors`. The answers are the library's; this program only takes the cases apart and prints.
+// Answers the cases of a batch on standard input that lend tables or bytes full of marks, of given lengths,
+// and prints the answer and then all that they hold: what lies past the part that was lent too. So what a
+// question leaves in each place can be compared with the second planner. The other kinds are answered by the
+// program `vectors`. The answers are the library's; this program only takes the cases apart and prints.
 mod marked;
 mod numbers;
 mod printed;
 mod recorded;
+mod written;
 
 use batch::Head;
 use batch::next_case;
@@ -21,11 +22,13 @@ fn answer(kind: u8, s: &[u8]) {
         b'm' => numbers::read(s),
         b'a' => printed::answer(s),
         b'p' => recorded::ask(kind, s, rest(s, 2)),
-        b't' => numbers::plan(s),
+        b't' => numbers::ask(kind, s, rest(s, 6)),
         b'o' => recorded::ask(kind, s, rest(s, 4)),
         b'w' => numbers::house(s),
         b'j' => recorded::ask(kind, s, behind_list(rest(s, 2))),
         b'c' => numbers::choice(s),
+        b'x' => numbers::ask(kind, s, rest(s, 2)),
+        b'y' => recorded::ask(kind, s, rest(s, 2)),
         _ => print::word(b"no such kind\n"),
     }
 }

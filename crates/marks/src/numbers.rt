@@ -1,8 +1,10 @@
-// The questions from numbers, with lent tables full of marks.
+// The questions from numbers, with lent tables full of marks. A job that is to be written is loaded here too,
+// and handed on to `written`.
 use super::marked::lend_numbers;
 use super::marked::lend_shorts;
 use super::marked::print_numbers;
 use super::marked::print_shorts;
+use super::written;
 use batch::payload::behind_lanes;
 use batch::payload::behind_list;
 use batch::payload::lane_room;
@@ -32,27 +34,29 @@ pub(crate) fn read(s: &[u8]) {
     print_shorts(b"order", &order);
 }
 
-pub(crate) fn plan(s: &[u8]) {
-    let network = rest(s, 6);
-    let behind = behind_lanes(network);
-    let mut lanes = lane_room();
-    let mut moves = [0u16; 200];
-    let mut order = [0u16; 100];
-    plan_lists(
-        s,
-        loaded_lanes(network, &mut lanes),
-        loaded_list(behind, &mut moves),
-        loaded_list(behind_list(behind), &mut order),
-    );
+// A question about the job that `job` holds: a network, and the moves and the order as lists. The lengths of
+// what is lent stand at the front of the payload.
+pub(crate) fn ask(kind: u8, s: &[u8], job: &[u8]) {
+    let nodes = long_at(job, 0) as usize;
+    let behind = behind_lanes(job);
+    let mut lane_space = lane_room();
+    let mut move_space = [0u16; 200];
+    let mut order_space = [0u16; 100];
+    let lanes = loaded_lanes(job, &mut lane_space);
+    let moves = loaded_list(behind, &mut move_space);
+    let order = loaded_list(behind_list(behind), &mut order_space);
+    match kind {
+        b't' => plan(s, nodes, lanes, moves, order),
+        _ => written::from_numbers(s, nodes, lanes, moves, order),
+    }
 }
 
-// The lengths of the tables and the count of nodes stand at the front of the payload.
-fn plan_lists(s: &[u8], lanes: &[u16], moves: &[u16], order: &[u16]) {
+fn plan(s: &[u8], nodes: usize, lanes: &[u16], moves: &[u16], order: &[u16]) {
     let mut table = [7777u16; 12400];
     let mut distances = [7777u16; 100];
     let mut ticks = [7777u32; 100];
     print::planned(plan_moves(
-        long_at(s, 6) as usize,
+        nodes,
         lanes,
         moves,
         order,

@@ -14,12 +14,12 @@ pub(crate) fn answer(s: &[u8]) {
 }
 
 // The front of the bytes, as long as the payload says at a place.
-fn lend_bytes<'a>(bytes: &'a mut [u8], s: &[u8], at: usize) -> &'a mut [u8] {
+pub(crate) fn lend_bytes<'a>(bytes: &'a mut [u8], s: &[u8], at: usize) -> &'a mut [u8] {
     let n = least(short_at(s, at) as usize, bytes.len());
     &mut bytes[0..n]
 }
 
-fn print_bytes(word: &[u8], list: &[u8]) {
+pub(crate) fn print_bytes(word: &[u8], list: &[u8]) {
     print::word(word);
     let n = list.len();
     let mut from: usize = 0;

@@ -1,8 +1,10 @@
 // The questions that take records. The records' numbers are `fields`, in four columns of 80: the starts, the
-// goals, the distances, the ticks (crate `lent`).
+// goals, the distances, the ticks (crate `lent`). A job that is to be written is loaded here too, and handed
+// on to `written`.
 use super::marked::lend_shorts;
 use super::marked::print_numbers;
 use super::marked::print_shorts;
+use super::written;
 use batch::payload::behind_lanes;
 use batch::payload::lane_room;
 use batch::payload::least;
@@ -58,7 +60,7 @@ fn load_records(s: &[u8], count: usize, fields: &mut [u32; 320]) {
 }
 
 // A question about the recorded job that `job` holds. What is asked stands at the front of the payload: the
-// length of the table and a carrier, or a carrier and a list.
+// length of what is lent, with a carrier or without, or a carrier and a list.
 pub(crate) fn ask(kind: u8, s: &[u8], job: &[u8]) {
     let nodes = long_at(job, 0) as usize;
     let records = behind_lanes(job);
@@ -73,6 +75,7 @@ pub(crate) fn ask(kind: u8, s: &[u8], job: &[u8]) {
     match kind {
         b'p' => plan(s, nodes, lanes, count, order, &mut fields),
         b'o' => house(s, nodes, lanes, count, order, &mut fields),
+        b'y' => written::from_records(s, nodes, lanes, count, order, &mut fields),
         _ => judge(s, nodes, lanes, count, order, &mut fields),
     }
     print_records(&fields);

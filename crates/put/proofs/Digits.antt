@@ -4,6 +4,7 @@
 -- of digits is above the number; so each law goes from a number's tenth to the number (`by-tenths`). Assumes
 -- nothing.
 --     below-ten, ten-up    the digits of a number below ten; those of any other, by its tenth's
+--     two-digits, three-digits, four-digits    those of a number below 10,000, one by one
 --     digit-behind         a digit behind those of a number writes ten times the number and the digit
 --     digits-value         the digits write the number; digits-unique so they tell it
 --     digits-some          there are some; digits-leading a first zero is alone
@@ -61,6 +62,25 @@ unfolding digits
 ten-up n h =
     let tenth = bound-enough n (suc (n / 10)) (n / 10) (omega arith) (omega arith) in
     digits-more n n h ∙ ap (λ (l : List ℕ). l ++ digit (n % 10) ∷ []) tenth
+
+pub two-digits : (n : ℕ) → 10 ≤ n → n < 100 → digits n ≡ digit (n / 10) ∷ digit (n % 10) ∷ []
+two-digits n h l = ten-up n h ∙ ap (λ (t : List ℕ). t ++ digit (n % 10) ∷ []) (below-ten (n / 10) (omega arith))
+
+pub three-digits : (n : ℕ) → 100 ≤ n → n < 1000 → digits n ≡ digit (n / 100) ∷ digit (n / 10 % 10) ∷ digit (n % 10) ∷ []
+three-digits n h l =
+    let first : n / 10 / 10 ≡ n / 100 = omega arith in
+    ten-up n (omega arith)
+    ∙ ap (λ (t : List ℕ). t ++ digit (n % 10) ∷ []) (two-digits (n / 10) (omega arith) (omega arith))
+    ∙ ap (λ (q : ℕ). digit q ∷ digit (n / 10 % 10) ∷ digit (n % 10) ∷ []) first
+
+pub four-digits : (n : ℕ) → 1000 ≤ n → n < 10000 →
+    digits n ≡ digit (n / 1000) ∷ digit (n / 100 % 10) ∷ digit (n / 10 % 10) ∷ digit (n % 10) ∷ []
+four-digits n h l =
+    let first : n / 10 / 100 ≡ n / 1000 = omega arith in
+    let second : n / 10 / 10 % 10 ≡ n / 100 % 10 = omega arith in
+    ten-up n (omega arith)
+    ∙ ap (λ (t : List ℕ). t ++ digit (n % 10) ∷ []) (three-digits (n / 10) (omega arith) (omega arith))
+    ∙ (λ i. digit (first i) ∷ digit (second i) ∷ digit (n / 10 % 10) ∷ digit (n % 10) ∷ [])
 
 pub digit-behind : (v d : ℕ) → 1 ≤ v → d < 10 → digits (v * 10 + d) ≡ digits v ++ digit d ∷ []
 digit-behind v d some h =

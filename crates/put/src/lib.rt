@@ -4,12 +4,12 @@
 // has to ask for room before it puts. Who prints a text into a list of a least length closes it with
 // `zero_rest` (rules 9.2, 9.13 and 10.6): places behind the text are zero up to that length, and those beyond
 // are never touched.
-ghost use Prim.Native.Nat.{_-_};
+ghost use Prim.Native.Nat.{_-_, _<_};
 ghost use mathlib.Core.List.{[], _∷_};
 ghost use mathlib.Core.Path.{_≡_};
 ghost use lib.ListN.{replicate};
 ghost use denote.Ref.{now};
-ghost use Rattle.put.specs.Digits.{digits, field};
+ghost use Rattle.put.specs.Digits.{digit, digits, field};
 ghost use Rattle.put.specs.Putting.{overwritten, Put};
 
 // One byte at a place.
@@ -38,16 +38,48 @@ pub fn word(bytes: &[u8], out: &mut [u8], at: usize) -> usize
     next
 }
 
-// The digits of a number from a place on: those of its tenth, then its last one.
-pub fn number(n: usize, out: &mut [u8], at: usize) -> usize
+// One digit.
+fn digit(d: usize, out: &mut [u8], at: usize) -> usize
+    requires { ⌜ d < 10 ⌝ }
+    ensures { λ r. ⌜ Put (now (out .entry)) at (digit d ∷ []) (now (out .exit)) r ⌝ }
+{
+    byte(48 + d as u8, out, at)
+}
+
+// The digits of a number below 10,000, as all numbers of a text are, each at the place that the one before
+// leaves. They are put without a call of itself, since a text has thousands of them.
+fn short(n: usize, out: &mut [u8], at: usize) -> usize
+    requires { ⌜ n < 10000 ⌝ }
     ensures { λ r. ⌜ Put (now (out .entry)) at (digits n) (now (out .exit)) r ⌝ }
 {
     if n < 10 {
-        return byte(48 + n as u8, out, at);
+        return digit(n, out, at);
+    }
+    if n < 100 {
+        let ones = digit(n / 10, out, at);
+        return digit(n % 10, out, ones);
+    }
+    if n < 1000 {
+        let tens = digit(n / 100, out, at);
+        let ones = digit(n / 10 % 10, out, tens);
+        return digit(n % 10, out, ones);
+    }
+    let hundreds = digit(n / 1000, out, at);
+    let tens = digit(n / 100 % 10, out, hundreds);
+    let ones = digit(n / 10 % 10, out, tens);
+    digit(n % 10, out, ones)
+}
+
+// The digits of a number from a place on: those of its tenth, then its last one, unless there are few.
+pub fn number(n: usize, out: &mut [u8], at: usize) -> usize
+    ensures { λ r. ⌜ Put (now (out .entry)) at (digits n) (now (out .exit)) r ⌝ }
+{
+    if n < 10000 {
+        return short(n, out, at);
     }
     let last = n % 10;
     let next = number(n / 10, out, at);
-    byte(48 + last as u8, out, next)
+    digit(last, out, next)
 }
 
 // A number and the byte behind it.

@@ -6,6 +6,8 @@
 --     TooShort       9: a lent table has fewer places than its least length, by the tables' lengths;
 --                    `AnyShort` by the tables
 --     countsOf       the counts of a job: nodes, lanes and carriers (rule 7.13)
+--     numbersRead    the job that the counts of an answer cut out of the tables: the numbers that a caller
+--                    hands on to planning or to writing
 --     AcceptedAs     no table is too short, the text is the written form of a job without faults, these are
 --                    its counts, and the tables are filled with its numbers (rules 7.13 and 9.5)
 --     Reason         why a reading is refused: 9 at line 0 where a lent table is too short, before anything
@@ -17,13 +19,13 @@
 use mathlib.Core.Path.{_≡_}
 use mathlib.Core.Logic.{_⊎_}
 use mathlib.Core.List.{List}
-use Prim.Native.Nat.{ℕ, _<_}
-use lib.ListN.{length}
+use Prim.Native.Nat.{ℕ, _*_, _<_}
+use lib.ListN.{length, take}
 use Rattle.hall.specs.declared.Fault.the-variants.{ShortTable}
 use Rattle.hall.specs.declared.Job.{Job}
 use Rattle.hall.specs.Limits.{carrierLimit, laneNumbers, moveNumbers}
-use Rattle.hall.specs.Floor.{laneCount}
-use Rattle.hall.specs.Job.{Numbers, carriers}
+use Rattle.hall.specs.Floor.{laneCount, networkOf}
+use Rattle.hall.specs.Job.{Numbers, jobOf, carriers}
 use Rattle.hall.specs.Numbers.{numberOf}
 use Rattle.hall.specs.Said.{Said, accepted, refused, saidRefusal}
 use Rattle.hall.specs.Left.{filled, left}
@@ -42,6 +44,12 @@ TooShort lanes moves order = (lanes < laneNumbers) ⊎ ((moves < moveNumbers) �
 abbrev pub countsOf : Numbers → Job
 countsOf j =
     record { nodes = j .network .nodes; lanes = laneCount (j .network .lanes); carriers = carriers j }
+
+abbrev pub numbersRead : (counts : Job) (lanes′ moves′ order′ : List ℕ) → Numbers
+numbersRead counts lanes′ moves′ order′ =
+    jobOf (networkOf (counts .nodes) (take (2 * counts .lanes) lanes′))
+    (take (2 * counts .carriers) moves′)
+    (take (counts .carriers) order′)
 
 abbrev pub AnyShort : (lanes moves order : List ℕ) → Type 0
 AnyShort lanes moves order = TooShort (length lanes) (length moves) (length order)

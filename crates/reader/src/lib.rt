@@ -25,9 +25,9 @@ ghost use Rattle.reader.specs.Text.{Long, TextRead};
 pub mod lines;
 pub mod sections;
 
-// So many bytes of a text have the answer of the whole (rule 7.7): one more than the 42,000 within which an
-// accepted text stays (`first-bytes-read` in proofs/Exactly.antt).
-pub const FIRST_BYTES: usize = 42001;
+// So many bytes of a text have the answer of the whole (rule 7.7): one more than an accepted text can have
+// (`first-bytes-read` in proofs/Exactly.antt).
+pub const FIRST_BYTES: usize = Job::TEXT_BYTES + 1;
 
 // The counts of an accepted job, or the refusal with its line.
 pub enum Read {

@@ -1,6 +1,8 @@
 // The kinds of cases. Each takes its payload apart, asks the library one question, or two, and prints the
-// answer. Those with a text are here, those from numbers in `numbers`.
+// answer. Those with a text are here, with what may be done more than once for them in `written`; those from
+// numbers are in `numbers`.
 use super::numbers;
+use super::written;
 use asks::house_for;
 use asks::judge_for;
 use batch::payload::behind_list;
@@ -18,7 +20,6 @@ use path::choose;
 use path::house;
 use path::judge;
 use reader::Read;
-use reader::read_numbers;
 
 pub(crate) fn answer(kind: u8, s: &[u8]) {
     match kind {
@@ -31,6 +32,7 @@ pub(crate) fn answer(kind: u8, s: &[u8]) {
         b'C' => two_lists(kind, s, 4),
         b'N' => numbers::job(s),
         b'n' => numbers::network(s),
+        b'W' => ask_text(kind, s, rest(s, 4), short_at(s, 0), &[0], &[0]),
         _ => print::word(b"no such kind\n"),
     }
 }
@@ -44,7 +46,7 @@ fn plan_text(s: &[u8]) {
 // A question about a text, behind a carrier or a move of so many bytes. The kinds with fewer lists than two
 // look at none that is handed on in its place.
 fn no_list(kind: u8, s: &[u8], at: usize) {
-    ask_text(kind, s, rest(s, at), &[0], &[0]);
+    ask_text(kind, s, rest(s, at), 0, &[0], &[0]);
 }
 
 // The same with a list between the two.
@@ -52,7 +54,7 @@ fn one_list(kind: u8, s: &[u8], at: usize) {
     let from = rest(s, at);
     let mut room = list_room();
     let list = loaded_list(from, &mut room);
-    ask_text(kind, s, behind_list(from), list, list);
+    ask_text(kind, s, behind_list(from), 0, list, list);
 }
 
 // The same with two lists.
@@ -63,14 +65,15 @@ fn two_lists(kind: u8, s: &[u8], at: usize) {
     let mut spare_room = list_room();
     let own = loaded_list(from, &mut own_room);
     let spare = loaded_list(behind, &mut spare_room);
-    ask_text(kind, s, behind_list(behind), own, spare);
+    ask_text(kind, s, behind_list(behind), 0, own, spare);
 }
 
-fn ask_text<'a>(kind: u8, s: &[u8], text: &[u8], own: &'a [u16], spare: &'a [u16]) {
+// The text is read once and so many further times: none but where the payload has a count of them.
+fn ask_text<'a>(kind: u8, s: &[u8], text: &[u8], further: u16, own: &'a [u16], spare: &'a [u16]) {
     let mut lanes = [0u16; Job::LANE_NUMBERS];
     let mut moves = [0u16; Job::MOVE_NUMBERS];
     let mut order = [0u16; Job::CARRIERS];
-    match read_numbers(text, &mut lanes, &mut moves, &mut order) {
+    match written::read_often(further, text, &mut lanes, &mut moves, &mut order) {
         Read::Job(job) => {
             let lane_count = least(job.lanes, Job::LANES);
             let count = least(job.carriers, Job::CARRIERS);
@@ -90,7 +93,7 @@ fn ask_text<'a>(kind: u8, s: &[u8], text: &[u8], own: &'a [u16], spare: &'a [u16
 }
 
 // A question about the job that the text has, or about a carrier of it, whose number stands at the front of
-// the payload.
+// the payload. Where the job is written, the count of further writings stands second.
 fn ask_job<'a>(
     kind: u8,
     s: &[u8],
@@ -116,6 +119,7 @@ fn ask_job<'a>(
             rows(front(&path, length), length);
         }
         b'Q' => print::judged(judge_for(nodes, lanes, moves, order, carrier, own)),
+        b'W' => written::write_and_print(short_at(s, 2), nodes, lanes, moves, order),
         _ => ask_move(
             kind,
             nodes,

@@ -4,6 +4,7 @@
 // the cases apart and prints.
 mod cases;
 mod numbers;
+mod written;
 
 use batch::Head;
 use batch::next_case;

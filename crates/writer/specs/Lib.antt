@@ -1,0 +1,2 @@
+-- What writing a job as its text promises.
+pub mod Writing

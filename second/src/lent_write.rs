@@ -1,0 +1,38 @@
+// What is left after writing a job into lent bytes, from numbers or from
+// records. Every byte holds its mark before. The text itself is told as it
+// stands, and all bytes behind it as the other tables are, so that a byte too
+// many or one that was not cleared is found out.
+
+use crate::job::{Hall, Job};
+use crate::lent::{job_of, job_of_lists, Columns, Lent, Record, BYTE_MARK};
+use crate::write::write;
+
+/// How many bytes the batch program has for a text. More are not lent; the
+/// generator stays below.
+pub const TEXT_PLACES: usize = 42_100;
+
+fn written(out: u16, job: &Job) -> Lent {
+    let mut bytes = vec![BYTE_MARK as u8; TEXT_PLACES];
+    let length = write(&mut bytes[..TEXT_PLACES.min(out.into())], job);
+    let behind = length.unwrap_or(0);
+    let left = bytes[behind..].iter().map(|&byte| byte.into()).collect();
+    let said = length.map(|length| {
+        let text = String::from_utf8_lossy(&bytes[..length]);
+        // The line feed at the end of the text ends the answer's last line.
+        let lines = text.strip_suffix('\n').expect("a text ends with a line feed");
+        format!("BYTES {}\n{}", length, lines)
+    });
+    Lent { said, tables: vec![("out", left)] }
+}
+
+/// Writing from numbers: an odd last number of the moves is in no move.
+pub fn numbers(out: u16, hall: &Hall, moves: &[u16], order: &[u16]) -> Lent {
+    written(out, &job_of_lists(hall, moves, order))
+}
+
+/// Writing from records, which come back as they were.
+pub fn records(out: u16, hall: &Hall, records: &[Record], order: &[u16]) -> Lent {
+    let mut lent = written(out, &job_of(hall, records, order));
+    lent.tables.extend(Columns::of(records).named());
+    lent
+}
