@@ -9,11 +9,11 @@
 --     write-refused-exactly    refused with a number at a place exactly when it is the first in the list
 --     write-accepted-exactly   accepted exactly when the output is long enough and no fault 2 to 7 holds
 --     write-listed             no other number is given than 2 to 5, 7 and 9
---     write-unreached          a job that planning refuses with 8 is written
 --     write-nine-kept, write-other-zeroed, write-filled    what the output holds after 9, after another
 --                              refusal, and where the job is written
 --     always-written           every job without faults 2 to 7 is written into an output that is long enough;
 --                              its text has at most 41,967 bytes, as if each number had four digits
+--     write-unreached          a job that planning refuses with 8 is written
 --     written-front            the first bytes, as many as the answer says, are the text
 --     numbers-come-back, job-comes-back    what was written is read: the job, without an odd last number of
 --                              its moves; paired-come-back the job itself where there is none
@@ -101,12 +101,6 @@ module _ (j : Numbers) (out out′ : List ℕ) where
     pub write-listed : {n p : ℕ} → saidWritten r ≡ refused n p → (2 ≤ n) × (n ≤ 9) × (n ≢ 6) × (n ≢ 8)
     write-listed {n} {p} e = writing-numbers j (write-refused-exactly n p .0 e)
 
-    pub write-unreached : textRoom ≤ length out → {p : ℕ} → First (jobQuestion j) 8 p →
-        r ≡ Bytes (length (textOf j))
-    write-unreached long unreached =
-        let none = none-asked (unreached-written {Short = length out < textRoom} j (λ h. omega arith) unreached) .1 in
-        said-bytes r (length (textOf j)) (write-accepted-exactly .0 (long, none))
-
     -- what the output holds then
 
     pub write-nine-kept : length out < textRoom → out′ ≡ out
@@ -126,6 +120,13 @@ module _ (j : Numbers) (out out′ : List ℕ) where
         (r ≡ Bytes (length (textOf j))) × (length (textOf j) ≤ 41967)
     always-written long none =
         (said-bytes r (length (textOf j)) (write-accepted-exactly .0 (long, none)), written-length j none)
+
+    -- that planning would refuse it with 8 does not matter
+    pub write-unreached : textRoom ≤ length out → {p : ℕ} → First (jobQuestion j) 8 p →
+        r ≡ Bytes (length (textOf j))
+    write-unreached long unreached =
+        let none = unreached-written {Short = length out < textRoom} j (λ h. omega arith) unreached in
+        always-written long (none-asked none .1) .0
 
     -- the text of a job is written again: so many bytes, these, and zeros behind them
     written-again : {text : List ℕ} → WrittenJob text j → textRoom ≤ length out →

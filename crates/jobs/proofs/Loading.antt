@@ -2,7 +2,7 @@
 -- are loaded. Where there are more, 65 are, which is more than 64 too, and an answer that any two such jobs
 -- share is an answer for the records' own moves. The part of the local list that is handed on is that of the
 -- loaded moves: no list has more numbers than it has. Assumes nothing.
---     part-length, part-as    the part that is handed on: its length, and what holds of it
+--     part-length, part-is    the part that is handed on: its length, and that it is what is loaded
 --     loaded-as               what holds of the loaded moves holds of the records' moves, if it holds alike
 --                             of any moves of more than 64 carriers
 use mathlib.Core.Path.{_≡_, sym, _∙_, ap, subst}
@@ -32,8 +32,8 @@ module _ (n : ℕ) (ms : List ℕ) (k : ℕ) (counted : k ≡ min (2 * min n 65)
   pub part-length : k ≡ length (take k ms)
   part-length = sym (length-take-le k ms (omega (arith, counted)))
 
-  pub part-as : (P : List ℕ → Type 0) → P (take k ms) → P (loaded n ms)
-  part-as P = subst P (ap (λ (m : ℕ). take m ms) counted ∙ take-min (2 * min n 65) ms)
+  pub part-is : take k ms ≡ loaded n ms
+  part-is = ap (λ (m : ℕ). take m ms) counted ∙ take-min (2 * min n 65) ms
 
 -- ---- the local list, once it is loaded
 

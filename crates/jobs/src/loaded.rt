@@ -7,14 +7,14 @@
 // than a job can have. A job of more than 64 records is refused whatever the moves are, so the 65th tells
 // enough.
 ghost use mathlib.Core.Path.{_≡_};
-ghost use Prim.Native.Nat.{_*_, min};
+ghost use Prim.Native.Nat.{min};
 ghost use denote.Ref.{now};
 ghost use Rattle.hall.specs.Floor.{networkOf};
 ghost use Rattle.hall.specs.Job.{jobOf};
 ghost use Rattle.planner.specs.Planning.{saidPlanned, lent, Planning};
 ghost use Rattle.writer.specs.Writing.{saidWritten, Writing};
 ghost use Rattle.jobs.specs.Asking.{HouseGiven, ListGiven};
-ghost use Rattle.jobs.specs.Loading.{crowd, loaded};
+ghost use Rattle.jobs.specs.Loading.{loaded};
 use asks::house_for;
 use asks::judge_for;
 use hall::Carrier;
@@ -41,12 +41,13 @@ fn fewer(a: usize, b: usize) -> usize
     b
 }
 
-// How many of `room` numbers are those of the moves of that many records, of 65 at most.
-fn numbers_of(records: usize, room: usize) -> usize
-    ensures { λ r. ⌜ r ≡ min (2 * min records crowd) room ⌝ }
+// The part of a list that has the moves of that many records, of 65 at most.
+fn part(records: usize, moves: &[u16]) -> &[u16]
+    ensures { λ r. ⌜ now r ≡ loaded records (now (moves .entry)) ⌝ }
 {
     let most = fewer(records, LOADED);
-    fewer(2 * most, room)
+    let n = fewer(2 * most, moves.len());
+    &moves[..n]
 }
 
 // The plan of a job of `records` carriers whose moves are loaded.
@@ -69,8 +70,15 @@ pub(crate) fn plan_loaded(
         (lent (now (table .exit)) (now (distances .exit)) (now (ticks .exit)))
         (saidPlanned r) ⌝ }
 {
-    let used = numbers_of(records, moves.len());
-    plan_moves(nodes, lanes, &moves[..used], order, table, distances, ticks)
+    plan_moves(
+        nodes,
+        lanes,
+        part(records, moves),
+        order,
+        table,
+        distances,
+        ticks,
+    )
 }
 
 // The house path of one carrier of a job of `records` carriers whose moves are loaded.
@@ -92,8 +100,7 @@ pub(crate) fn house_loaded(
         (now (path .entry)) (now (path .exit))
         r ⌝ }
 {
-    let used = numbers_of(records, moves.len());
-    house_for(nodes, lanes, &moves[..used], order, carrier, path)
+    house_for(nodes, lanes, part(records, moves), order, carrier, path)
 }
 
 // Whether a list is a shortest path of one carrier of a job of `records` carriers whose moves are loaded.
@@ -115,8 +122,7 @@ pub(crate) fn judge_loaded(
         (now (list .entry))
         r ⌝ }
 {
-    let used = numbers_of(records, moves.len());
-    judge_for(nodes, lanes, &moves[..used], order, carrier, list)
+    judge_for(nodes, lanes, part(records, moves), order, carrier, list)
 }
 
 // The text of a job of `records` carriers whose moves are loaded.
@@ -136,6 +142,5 @@ pub(crate) fn write_loaded(
         (now (out .entry)) (now (out .exit))
         (saidWritten r) ⌝ }
 {
-    let used = numbers_of(records, moves.len());
-    write_numbers(nodes, lanes, &moves[..used], order, out)
+    write_numbers(nodes, lanes, part(records, moves), order, out)
 }
