@@ -25,6 +25,15 @@ pub fn line(nodes: usize) -> Hall {
     hall_of(nodes, (1..nodes).map(|node| (node - 1, node)).collect())
 }
 
+/// A line that is numbered in zigzag, last number, first, last but one, second
+/// and so on: its neighbours' numbers add up to one or two less than there are
+/// nodes. Lanes that follow each other on the line are far apart in the sorted
+/// list, so that a walk which sweeps the list reaches few nodes a sweep.
+pub fn zigzag(nodes: usize) -> Hall {
+    let joins = |sum: usize| (0..=sum).map(move |node| (node, sum - node));
+    hall_of(nodes, joins(nodes - 1).chain(joins(nodes.max(2) - 2)).collect())
+}
+
 pub fn ring(nodes: usize) -> Hall {
     hall_of(nodes, (0..nodes).map(|node| (node, (node + 1) % nodes)).collect())
 }

@@ -5,11 +5,11 @@
 
 use crate::batch::Case;
 use crate::dice::Dice;
-use crate::halls::{grid, job_apart, line, renumbered, scattered};
+use crate::halls::{grid, job_apart, line, renumbered, scattered, zigzag};
 use crate::program_texts::longest_job;
 use crate::text;
 
-pub const NAMES: [&str; 4] = ["line", "grid", "random", "renumbered"];
+pub const NAMES: [&str; 5] = ["line", "grid", "random", "renumbered", "zigzag"];
 
 /// A batch of `count` times the named job, or nothing for another name.
 pub fn batch(name: &str, count: usize) -> Option<Vec<Case>> {
@@ -19,6 +19,7 @@ pub fn batch(name: &str, count: usize) -> Option<Vec<Case>> {
         "grid" => grid(1024, 32),
         "random" => scattered(&mut dice, 1024, 4096),
         "renumbered" => renumbered(&mut dice, &line(1024)),
+        "zigzag" => zigzag(1024),
         _ => return None,
     };
     let text = text::write(&job_apart(&mut dice, hall, 64, true));

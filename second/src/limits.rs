@@ -6,7 +6,7 @@ use crate::batch::Case;
 use crate::dice::Dice;
 use crate::halls::{
     aisles, complete, grid, hall_of, job_apart, job_over, line, renumbered, ring, scattered, star,
-    through_one_corridor, tree, two_parts, two_sided,
+    through_one_corridor, tree, two_parts, two_sided, zigzag,
 };
 use crate::job::{Hall, Job, Move};
 use crate::lists::proposal;
@@ -66,6 +66,7 @@ pub fn full_jobs(dice: &mut Dice) -> Vec<Job> {
         sparse,
         two_parts(1024),
         long_numbers(),
+        zigzag(1024),
     ];
     let mut jobs =
         vec![to_and_fro(line(1024), 64), through_one_corridor(dice, 32, 960), across_a_ring(dice)];
@@ -183,7 +184,7 @@ fn numbers_at_the_limits(dice: &mut Dice) -> Vec<Case> {
 fn paths_at_the_limits(dice: &mut Dice) -> Vec<Case> {
     let mut cases = Vec::new();
     let shuffled = renumbered(dice, &line(1024));
-    for hall in [line(1024), shuffled, grid(1024, 32), long_numbers()] {
+    for hall in [line(1024), shuffled, grid(1024, 32), long_numbers(), zigzag(1024)] {
         let job = job_over(dice, hall, 64, true);
         let text = text::write(&job);
         let carrier = dice.below(job.moves.len()) as u16;
