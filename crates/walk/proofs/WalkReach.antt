@@ -1,181 +1,178 @@
--- The walk from its first node to its end. At the beginning only the source is listed, and every other node
--- is marked as not reached; a turn takes the invariant from one place of the list to the next; and when every
--- listed node had its turn, the labels have the hall's certificate, by which they are the distances. Another
--- walk has the same certificate to show, `Labels`, and nothing else of this file. Assumes nothing.
---     Begun              the row before the first turn
---     waiting-first      before the first turn
---     waiting-turn       a turn
---     waiting-done       after the last
-use mathlib.Core.Path.{_≡_, refl, sym, _∙_, ap}
-use mathlib.Core.Logic.{inl, _≢_}
-use mathlib.Core.List.{List, _++_}
+-- The walk from its first sweep to its last. After n sweeps the label of a node is at most the length of each
+-- walk of up to n lanes: a sweep lets labels fall along every lane. A distance is below the number of nodes,
+-- so after one sweep less than there are nodes no label falls any more, and one sweep later the walk has
+-- ended: that bounds the sweeps, and is why the loop ends. At the end every lane is calm, so no walk is
+-- shorter than the label at its end, and that label is the length of a walk; which is what the hall's
+-- certificate asks for, `Labels`. Another walk has the same certificate to show. Assumes nothing.
+--     Walking            the row after some sweeps, and the lanes that the next one has to look at
+--     walking-first      before the first sweep
+--     walking-swept      a sweep
+--     walking-done       after the last
+use mathlib.Core.Path.{_≡_, refl, _∙_}
+use mathlib.Core.Logic.{_⊎_, inl, inr, _≢_}
+use mathlib.Core.Bool.{Bool, false, not}
+use mathlib.Core.List.{List}
 use Prim.Native.Nat.{ℕ, _+_, _-_, _≤_, _<_}
-use native.Mathlib.Decide.{ℕ-discrete}
+use native.Mathlib.Decide.{ℕ-discrete, decLt}
 use native.Mathlib.Omega.{arith}
-use lib.ListN.{length, getD, set, replicate, drop, length-set, length-append, length-replicate, length-drop, getD-replicate, List·getD-append}
-use lib.Seq.{getD-set-same, getD-set-other, getD-append-add, getD-drop}
-use Rattle.hall.specs.Limits.{nodeLimit, noWalkMark}
-use Rattle.hall.specs.Floor.{Lane, Network, floor}
-use Rattle.hall.proofs.Labels.{Labels, labels-are}
+use lib.ListN.{length, getD}
+use Rattle.hall.specs.Limits.{noWalkMark}
+use Rattle.hall.specs.Floor.{Walk, here, step, Dist, NoWalk, Lane, Network, floor, laneCount, lower, higher}
+use Rattle.hall.proofs.Walks.{reverse, begins-on-node, lanes-symmetric}
+use Rattle.hall.proofs.Pigeon.{dist-below}
+use Rattle.hall.proofs.Decide.{joined-or-not}
+use Rattle.hall.proofs.Labels.{Labels, Before, labels-are}
 use Rattle.walk.specs.Row.{RowServed, RowFilled}
-use Rattle.walk.specs.Turn.{ListRoom, Grown, same, more, Turned}
-use Rattle.walk.proofs.WalkRoom.{place-old, listed-stays}
-use Rattle.walk.proofs.WalkWaiting.{Waiting, waiting-small, waiting-more}
+use Rattle.walk.specs.Sweep.{NearAt, Labelled, unreached, reached, AllLabelled, Sweepable, Fell, LanesSwept}
+use Rattle.walk.proofs.WalkBegun.{Begun}
+use Rattle.walk.proofs.WalkSweep.{lanes-left-some, labelled-bound}
 
--- ---- a turn
+pub record Walking (N : Network) (source : ℕ) (row₀ row : List ℕ) (sweeps : ℕ) (back : Bool) (todo : ℕ) : Type 0 where
+  -- what is no node's is as it came
+  pub size : length row ≡ length row₀
+  pub beyond : (v : ℕ) → N .nodes ≤ v → getD row v 0 ≡ getD row₀ v 0
+  -- each label is the mark or the length of some walk
+  pub labelled : AllLabelled N source row
+  -- and at most that of each walk of at most as many lanes as there were sweeps
+  pub within : (v m : ℕ) → m ≤ sweeps → Walk (floor N) v source m → getD row v 0 ≤ m
+  -- the next sweep
+  pub sweepable : Sweepable N back todo row
+  -- how many sweeps there were, and that one more is not too many if it has lanes
+  pub few : sweeps ≤ N .nodes
+  pub more : 0 < todo → sweeps < N .nodes
 
--- the neighbours that are reached in the turn of u leave u in its place, with its label
-record Reached (N : Network) (source : ℕ) (row₀ row list : List ℕ) (head tail u label : ℕ) : Type 0 where
-  waiting : Waiting N source row₀ row list head tail
-  waits : head < tail
-  place : getD list head 0 ≡ u
-  level : getD row (getD list head 0) 0 + 1 ≡ label
-
-reached-grown : {N : Network} {source : ℕ} {row₀ row list : List ℕ} {head tail u label : ℕ} {row′ list′ : List ℕ} {tail′ : ℕ}
-    → Reached N source row₀ row list head tail u label → Grown N u label row list tail row′ list′ tail′
-    → Reached N source row₀ row′ list′ head tail′ u label
-reached-grown w same = w
-reached-grown {head = head} {label = label} w (more b g lane h fresh) =
-    let r = reached-grown w g in
-    record {
-      waiting = rw (r .level) at (waiting-more (r .waiting) (r .waits) b (rw (r .place) lane) h fresh);
-      waits = omega (arith, r .waits);
-      place = place-old (r .waiting .room) b h fresh head (r .waits) ∙ r .place;
-      level = ap (λ (n : ℕ). n + 1) (listed-stays (r .waiting .room) b h fresh label head (r .waits)) ∙ r .level;
-    }
-
-pub waiting-turn : {N : Network} {source : ℕ} {row₀ row list : List ℕ} {head tail : ℕ} {row′ list′ : List ℕ} {tail′ : ℕ}
-    → Waiting N source row₀ row list head tail → head < tail
-    → Turned N (getD list head 0) (getD row (getD list head 0) 0 + 1) 0 (length (N .lanes)) row list tail row′ list′ tail′
-    → Waiting N source row₀ row′ list′ (head + 1) tail′
-waiting-turn {N} {source} {row₀} {row} {list} {head} {tail} {row′} {list′} {tail′} w waits t = record {
-  room = now .room;
-  size = now .size;
-  beyond = now .beyond;
-  on-floor = now .on-floor;
-  source-zero = now .source-zero;
-  begun = omega (arith, r .waits);
-  listed = now .listed;
-  rising = now .rising;
-  close = λ i h k. let x = now .close i h (r .waits) in let y = now .rising head (head + 1) (omega arith) k in omega arith;
-  early = now .early;
-  back = now .back;
-  near = λ i b h k l. near i b h k l (ℕ-discrete i head);
-}
+-- along a lane, from the ends of the lanes of the list
+near-lane : {N : Network} {row left : List ℕ} → ((k : ℕ) → k < laneCount (N .lanes) → NearAt N row left k)
+    → (a b : ℕ) → a < N .nodes → b < N .nodes → Lane (N .lanes) a b → getD left b 0 ≤ getD row a 0 + 1
+near-lane {N} {row} {left} near a b h i l = ends (l .ends)
   where
-    r : Reached N source row₀ row′ list′ head tail′ (getD list head 0) (getD row (getD list head 0) 0 + 1)
-    r = reached-grown (record { waiting = w; waits = waits; place = refl; level = refl }) (t .grown)
-
-    now : Waiting N source row₀ row′ list′ head tail′
-    now = r .waiting
-
-    near : (i b : ℕ) → i < head + 1 → b < N .nodes → Lane (N .lanes) (getD list′ i 0) b → Dec (i ≡ head)
-        → (getD row′ b 0 ≢ noWalkMark) × (getD row′ b 0 ≤ getD row′ (getD list′ i 0) 0 + 1)
-    near i b h k l (no e) = now .near i b (omega arith) k l
-    near i b h k l (yes e) =
-        let lane = rw (r .place) at (rw e at l) in
-        let met = t .met b k lane (omega arith) (omega (arith, lane .inside)) in
-        let x = now .listed b k met in
-        (met, rw e (rw (x .is) at (now .close (x .place) (x .inside) (r .waits))))
+    ends : ((lower (N .lanes) (l .k) ≡ a) × (higher (N .lanes) (l .k) ≡ b)) ⊎ ((lower (N .lanes) (l .k) ≡ b) × (higher (N .lanes) (l .k) ≡ a))
+        → getD left b 0 ≤ getD row a 0 + 1
+    ends (inl e) = rw (e .0, e .1) at (near (l .k) (l .inside) (rw (e .0) h) (rw (e .1) i) .second)
+    ends (inr e) = rw (e .0, e .1) at (near (l .k) (l .inside) (rw (e .0) i) (rw (e .1) h) .first)
 
 -- ---- the beginning
 
--- the row before the first turn, compared with the row that came: the source at 0, every other node marked,
--- and the rest as it came
-pub record Begun (nodes source : ℕ) (row₀ row : List ℕ) : Type 0 where
-  pub size : length row ≡ length row₀
-  pub source-zero : getD row source 0 ≡ 0
-  pub unreached : (v : ℕ) → v < nodes → v ≢ source → getD row v 0 ≡ noWalkMark
-  pub beyond : (v : ℕ) → nodes ≤ v → getD row v 0 ≡ getD row₀ v 0
+module _ {N : Network} {source : ℕ} {row₀ row : List ℕ} (served : RowServed N source row₀) (start : Begun (N .nodes) source row₀ row) where
+  first-labelled : (v : ℕ) → v < N .nodes → Dec (v ≡ source) → Labelled N source v (getD row v 0)
+  first-labelled v h (yes e) = rw (e, start .source-zero) (reached (omega arith) (here (served .on-floor)))
+  first-labelled v h (no e) = unreached (start .unreached v h e)
 
-module _ (nodes : ℕ) (row₀ : List ℕ) (wide : nodes ≤ length row₀) where
-  marks : List ℕ
-  marks = replicate nodes noWalkMark
+  first-within : (v m : ℕ) → m ≤ 0 → Walk (floor N) v source m → getD row v 0 ≤ m
+  first-within v m h (here n) = omega (arith, start .source-zero)
+  first-within v m h (step n l w) = absurd (let z : ⊥ = omega arith in z)
 
-  blank : List ℕ
-  blank = replicate nodes noWalkMark ++ drop nodes row₀
-
-  marks-length : length marks ≡ nodes
-  unfolding marks
-  marks-length = length-replicate {A = ℕ} nodes noWalkMark
-
-  blank-length : length blank ≡ length row₀
-  unfolding blank
-  blank-length = simp (length-append, length-replicate, length-drop) (omega arith)
-
-  blank-below : (v : ℕ) → v < nodes → getD blank v 0 ≡ noWalkMark
-  unfolding blank marks
-  blank-below v h = List·getD-append marks (drop nodes row₀) 0 v (rw marks-length h) ∙ getD-replicate nodes v noWalkMark 0 h
-
-  blank-beyond : (v : ℕ) → nodes ≤ v → getD blank v 0 ≡ getD row₀ v 0
-  unfolding blank marks
-  blank-beyond v h =
-      let e : length marks + (v - nodes) ≡ v = omega (arith, marks-length) in
-      let f : nodes + (v - nodes) ≡ v = omega arith in
-      (rw e at (getD-append-add marks (drop nodes row₀) (v - nodes) 0)) ∙ (rw f at (getD-drop nodes row₀ (v - nodes) 0))
-
-  begun-blank : (source : ℕ) → source < nodes → Begun nodes source row₀ (set blank source 0)
-  begun-blank source h = record {
-    size = length-set blank source 0 ∙ blank-length;
-    source-zero = getD-set-same blank source 0 0 (rw blank-length (omega arith));
-    unreached = λ v k n. getD-set-other blank source v 0 0 n ∙ blank-below v k;
-    beyond = λ v k. getD-set-other blank source v 0 0 (λ e. let x : ⊥ = omega arith in x) ∙ blank-beyond v k;
-  }
-
-  pub begun : (source : ℕ) → source < nodes → {row : List ℕ} → row ≡ replicate nodes noWalkMark ++ drop nodes row₀ → Begun nodes source row₀ (set row source 0)
-  unfolding blank
-  begun source h e = rw e (begun-blank source h)
-
-module _ {N : Network} {source : ℕ} {row₀ row : List ℕ} (served : RowServed N source row₀) (start : Begun (N .nodes) source row₀ row) (list : List ℕ) (places : length list ≡ nodeLimit)
-    (begins : getD list 0 0 ≡ source) where
-  only : (i : ℕ) → i < 1 → getD list i 0 ≡ source
-  only i h = let e : i ≡ 0 = omega arith in rw e begins
-
-  first-at : (i : ℕ) → i < 1 → getD row (getD list i 0) 0 ≡ 0
-  first-at i h = rw (only i h) (start .source-zero)
-
-  first-only : (v : ℕ) → v < N .nodes → getD row v 0 ≢ noWalkMark → Dec (v ≡ source) → v ≡ source
-  first-only v h l (yes e) = e
-  first-only v h l (no e) = absurd (l (start .unreached v h e))
-
-  first-room : ListRoom (N .nodes) row list 1
-  first-room = record {
-    few = served .few;
-    wide = omega (arith, start .size, served .wide);
-    places = places;
-    stand = λ i h. rw (only i h) (served .on-floor);
-    labelled = λ i h e. let x = first-at i h in omega arith;
-    differ = λ i j h k e. omega arith;
-  }
-
-  pub waiting-first : Waiting N source row row list 0 1
-  waiting-first = record {
-    room = first-room;
+  pub walking-first : Walking N source row row 0 false (laneCount (N .lanes))
+  walking-first = record {
     size = refl;
     beyond = λ v h. refl;
-    on-floor = served .on-floor;
-    source-zero = start .source-zero;
-    begun = omega arith;
-    listed = λ v h l. record { place = 0; inside = omega arith; is = begins ∙ sym (first-only v h l (ℕ-discrete v source)) };
-    rising = λ i j h k. let x = first-at i (omega arith) in let y = first-at j k in omega arith;
-    close = λ i h k. let x = first-at i h in omega arith;
-    early = λ i h. let x = first-at i h in omega arith;
-    back = λ v h l. inl (first-only v h l (ℕ-discrete v source));
-    near = λ i b h k l. absurd (let x : ⊥ = omega arith in x);
+    labelled = λ v h. first-labelled v h (ℕ-discrete v source);
+    within = first-within;
+    sweepable = record {
+      wide = omega (arith, start .size, served .wide);
+      few = omega arith;
+      calm = λ k h i. absurd (let z : ⊥ = omega arith in z);
+    };
+    few = omega arith;
+    more = λ h. omega (arith, served .on-floor);
+  }
+
+-- ---- a sweep
+
+module _ {N : Network} {source : ℕ} {row₀ row left : List ℕ} {sweeps : ℕ} {back : Bool} {todo next : ℕ}
+    (w : Walking N source row₀ row sweeps back todo) (s : LanesSwept N back row left next) where
+  swept-within : (v m : ℕ) → m ≤ sweeps + 1 → Walk (floor N) v source m → getD left v 0 ≤ m
+  swept-within v m h (here n) = omega (arith, s .fallen v, w .within v 0 (omega arith) (here n))
+  swept-within v m h (step {b = b} {n = m′} n l rest) =
+      let near = near-lane (s .near) b v (begins-on-node rest) n (lanes-symmetric N v b l) in
+      omega (arith, near, w .within b m′ (omega arith) rest)
+
+  -- a label that fell was not that of a distance yet
+  fell-early : Fell row left → sweeps + 1 < N .nodes
+  fell-early f = on-node (decLt (f .node) (N .nodes))
+    where
+      short : {r : ℕ} → Dist (floor N) source (f .node) r → Walk (floor N) source (f .node) (getD left (f .node) 0) → sweeps + 1 < N .nodes
+      short {r} d walk = cases (decLt (sweeps + 1) (N .nodes))
+        where
+          cases : Dec (sweeps + 1 < N .nodes) → sweeps + 1 < N .nodes
+          cases (yes h) = h
+          cases (no h) =
+              let below = dist-below (N .nodes) (λ v x. x) d in
+              let already = w .within (f .node) r (omega arith) (reverse (lanes-symmetric N) (d .walk)) in
+              absurd (let z : ⊥ = omega (arith, already, d .least (getD left (f .node) 0) walk, f .less) in z)
+
+      joined : ((r : ℕ) × Dist (floor N) source (f .node) r) ⊎ NoWalk (floor N) source (f .node) → Walk (floor N) source (f .node) (getD left (f .node) 0) → sweeps + 1 < N .nodes
+      joined (inl d) walk = short (d .1) walk
+      joined (inr none) walk = absurd (none (getD left (f .node) 0) walk)
+
+      fell-to : Labelled N source (f .node) (getD left (f .node) 0) → Labelled N source (f .node) (getD row (f .node) 0) → sweeps + 1 < N .nodes
+      fell-to (unreached e) old = absurd (let bound = labelled-bound old in let z : ⊥ = omega (arith, f .less) in z)
+      fell-to (reached h walk) old = joined (joined-or-not N source (f .node)) walk
+
+      on-node : Dec (f .node < N .nodes) → sweeps + 1 < N .nodes
+      on-node (no h) = absurd (let z : ⊥ = omega (arith, s .beyond (f .node) (omega arith), f .less) in z)
+      on-node (yes h) = fell-to (s .labelled source (w .labelled) (f .node) h) (w .labelled (f .node) h)
+
+  pub walking-swept : 0 < todo → Walking N source row₀ left (sweeps + 1) (not back) next
+  walking-swept going = record {
+    size = s .size ∙ w .size;
+    beyond = λ v h. s .beyond v h ∙ w .beyond v h;
+    labelled = s .labelled source (w .labelled);
+    within = swept-within;
+    sweepable = s .sweepable;
+    few = omega (arith, w .more going);
+    more = λ h. fell-early (s .fell h);
   }
 
 -- ---- the end
 
-module _ {N : Network} {source : ℕ} {row₀ row list : List ℕ} {head tail : ℕ} (w : Waiting N source row₀ row list head tail)
-    (all : tail ≤ head) where
-  done-near : (a b : ℕ) → a < N .nodes → b < N .nodes → Lane (N .lanes) a b → getD row a 0 ≢ noWalkMark → (getD row b 0 ≢ noWalkMark) × (getD row b 0 ≤ getD row a 0 + 1)
-  done-near a b h k l f =
-      let x = w .listed a h f in
-      rw (x .is) at (w .near (x .place) b (omega (arith, x .inside)) k (rw (x .is) l))
+module _ {N : Network} {source : ℕ} {row₋ row₀ row : List ℕ} {sweeps : ℕ} {back : Bool} {todo : ℕ} (served : RowServed N source row₋)
+    (w : Walking N source row₀ row sweeps back todo) (all : todo ≡ 0) where
+  abbrev label : ℕ → ℕ
+  label v = getD row v 0
+
+  done-calm : (a b : ℕ) → a < N .nodes → b < N .nodes → Lane (N .lanes) a b → label b ≤ label a + 1
+  done-calm = near-lane (λ k h. w .sweepable .calm k h (rw all (lanes-left-some (laneCount (N .lanes)) back k h)))
+
+  done-source : label source ≡ 0
+  done-source = omega (arith, w .within source 0 (omega arith) (here (served .on-floor)))
+
+  done-along : {a v m : ℕ} → Walk (floor N) a v m → label v ≤ label a + m
+  done-along (here n) = omega arith
+  done-along (step {a = a} {b = b} n l rest) = omega (arith, done-along rest, done-calm a b n (begins-on-node rest) l)
+
+  done-walk : (v : ℕ) → v < N .nodes → label v ≢ noWalkMark → Walk (floor N) source v (label v)
+  done-walk v h f = cases (w .labelled v h)
+    where
+      cases : Labelled N source v (label v) → Walk (floor N) source v (label v)
+      cases (unreached e) = absurd (f e)
+      cases (reached small walk) = walk
+
+  done-dist : (v : ℕ) → v < N .nodes → label v ≢ noWalkMark → Dist (floor N) source v (label v)
+  done-dist v h f = record { walk = done-walk v h f; least = λ n x. omega (arith, done-along x, done-source) }
+
+  done-small : (v : ℕ) → v < N .nodes → label v ≢ noWalkMark → label v ≤ 1023
+  done-small v h f = omega (arith, dist-below (N .nodes) (λ u x. x) (done-dist v h f), served .few)
+
+  done-near : (a b : ℕ) → a < N .nodes → b < N .nodes → Lane (N .lanes) a b → label a ≢ noWalkMark → (label b ≢ noWalkMark) × (label b ≤ label a + 1)
+  done-near a b h i l f = let n = done-calm a b h i l in let small = done-small a h f in ((λ e. let z : ⊥ = omega arith in z), n)
+
+  -- the node before the last of a walk that is as long as the label
+  before-last : {u v n : ℕ} → Walk (floor N) v u n → u ≡ source → label v ≡ n → (v ≡ source) ⊎ Before (floor N) label v
+  before-last (here x) e long = inl e
+  before-last {v = v} (step {b = b} {n = n} x l rest) e long =
+      let lane = lanes-symmetric N v b l in
+      let on-floor = begins-on-node rest in
+      let near = done-calm b v on-floor x lane in
+      let most = done-along (reverse (lanes-symmetric N) (rw e at rest)) in
+      inr (record { node = b; is-node = on-floor; lane = lane; less = omega (arith, near, most, done-source, long) })
+
+  done-back : (v : ℕ) → v < N .nodes → label v ≢ noWalkMark → (v ≡ source) ⊎ Before (floor N) label v
+  done-back v h f = before-last (reverse (lanes-symmetric N) (done-walk v h f)) refl refl
 
   -- the certificate: whatever walk is put in this one's place has this to show
-  done-labels : Labels (floor N) source (λ v. getD row v 0)
-  done-labels = record { on-node = w .on-floor; source = w .source-zero; near = done-near; small = waiting-small w; back = w .back }
+  done-labels : Labels (floor N) source label
+  done-labels = record { on-node = served .on-floor; source = done-source; near = done-near; small = done-small; back = done-back }
 
-  pub waiting-done : {row₋ : List ℕ} → Begun (N .nodes) source row₋ row₀ → RowFilled N source row₋ row
-  waiting-done start = record { size = w .size ∙ start .size; holds = labels-are done-labels; beyond = λ v h. w .beyond v h ∙ start .beyond v h }
+  pub walking-done : Begun (N .nodes) source row₋ row₀ → RowFilled N source row₋ row
+  walking-done start = record { size = w .size ∙ start .size; holds = labels-are done-labels; beyond = λ v h. w .beyond v h ∙ start .beyond v h }

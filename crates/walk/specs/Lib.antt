@@ -1,4 +1,3 @@
--- What the distance walk promises; the last two say what its steps promise to each other.
+-- Row: what the distance walk promises. Sweep: what its steps promise to each other.
 pub mod Row
-pub mod Chain
-pub mod Turn
+pub mod Sweep

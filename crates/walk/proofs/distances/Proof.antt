@@ -23,7 +23,7 @@ same-length : tie.Need-same-length
 same-length c = search needs
 
 returns-4 : tie.Need-returns-4
-returns-4 c = filled refl (search needs) (c .before .before .reach .ensures)
+returns-4 c = filled refl (search needs) (c .before .before .reach .ensures .0)
 
 pub distances-spec : {M : Type 1} → statement M
 distances-spec =
