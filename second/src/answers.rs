@@ -5,6 +5,8 @@
 use crate::batch::Case;
 use crate::job::{Job, Refusal};
 use crate::lent::{self, Lent};
+use crate::lent_plan;
+use crate::lent_read;
 use crate::lent_write;
 use crate::paths::{
     choose, house_path_of_carrier, house_path_of_move, judge_for_carrier, judge_for_move, Choice,
@@ -36,8 +38,8 @@ fn either<T>(result: Result<T, Refusal>, accepted: impl Fn(T) -> Answer) -> Answ
     }
 }
 
-/// The answer to one job text. Reading gives 1 to 5 or 7 with the line;
-/// planning can then only give 8, whose place is turned into the carrier's line.
+/// The answer to one job text. Reading refuses with the line; planning can then
+/// only give 8, whose place is turned into the carrier's line.
 pub fn answer_to_text(text: &[u8]) -> Answer {
     let planned = text::read(text).and_then(|job| {
         plan(&job).map_err(|refusal| Refusal {
@@ -84,20 +86,16 @@ pub fn answers_to(case: &Case) -> Vec<Answer> {
             Case::WriteText { readings, writings, text } => {
                 either(write::read_and_written(*readings, *writings, text), Answer::Written)
             }
-            Case::ReadRecords { lanes, records, order, text } => {
-                Answer::Left(lent::read_to_records(*lanes, *records, *order, text))
-            }
-            Case::ReadMoves { lanes, moves, order, text } => {
-                Answer::Left(lent::read_to_moves(*lanes, *moves, *order, text))
-            }
+            Case::ReadRecords { lent, text } => Answer::Left(lent_read::to_records(*lent, text)),
+            Case::ReadMoves { lent, text } => Answer::Left(lent_read::to_moves(*lent, text)),
             Case::PrintTo { out, text } => {
                 Answer::Left(lent::print_to(*out, &answer_to_text(text).printed()))
             }
             Case::PlanRecords { table, job } => {
-                Answer::Left(lent::plan_records(*table, &job.hall, &job.records, &job.order))
+                Answer::Left(lent_plan::records(*table, &job.hall, &job.records, &job.order))
             }
             Case::PlanLists { lent, hall, moves, order } => {
-                Answer::Left(lent::plan_lists(*lent, hall, moves, order))
+                Answer::Left(lent_plan::lists(*lent, hall, moves, order))
             }
             Case::PathOfRecords { path, carrier, job } => Answer::Left(lent::house_of_records(
                 *path,
@@ -152,10 +150,12 @@ fn printed_numbers(plan: &Plan) -> String {
 }
 
 fn printed_job(job: &Job) -> String {
-    let lanes = job.hall.lanes();
-    let mut out = format!("READ {} {} {}\n", job.hall.nodes, lanes.len(), job.moves.len());
-    for (first, second) in lanes {
+    let mut out = format!("{}\n", lent_read::counts(job));
+    for (first, second) in job.hall.lanes() {
         out += &format!("{} {}\n", first, second);
+    }
+    for node in &job.hall.closed {
+        out += &format!("{}\n", node);
     }
     for asked in &job.moves {
         out += &format!("{} {}\n", asked.start, asked.goal);

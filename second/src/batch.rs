@@ -28,10 +28,11 @@ pub enum Case {
     MoveNumbers { hall: Hall, asked: Move, list: Vec<u16> },
     /// `W`: write the job of a text, with so many further readings and writings.
     WriteText { readings: u16, writings: u16, text: Vec<u8> },
-    /// `r`: read a text into lent tables and records of these lengths.
-    ReadRecords { lanes: u16, records: u16, order: u16, text: Vec<u8> },
-    /// `m`: the same on numbers.
-    ReadMoves { lanes: u16, moves: u16, order: u16, text: Vec<u8> },
+    /// `r`: read a text into lanes, closed nodes, records and order of these
+    /// lengths.
+    ReadRecords { lent: [u16; 4], text: Vec<u8> },
+    /// `m`: the same with a list of moves in the place of the records.
+    ReadMoves { lent: [u16; 4], text: Vec<u8> },
     /// `a`: print the answer to a text into lent bytes.
     PrintTo { out: u16, text: Vec<u8> },
     /// `p`: plan a job of records into a lent table.

@@ -53,12 +53,8 @@ impl Case {
                 put_shorts(&mut out, &[*readings, *writings]);
                 out.extend(text);
             }
-            Case::ReadRecords { lanes, records, order, text } => {
-                put_shorts(&mut out, &[*lanes, *records, *order]);
-                out.extend(text);
-            }
-            Case::ReadMoves { lanes, moves, order, text } => {
-                put_shorts(&mut out, &[*lanes, *moves, *order]);
+            Case::ReadRecords { lent, text } | Case::ReadMoves { lent, text } => {
+                put_shorts(&mut out, lent);
                 out.extend(text);
             }
             Case::PrintTo { out: lent, text } => {
@@ -152,22 +148,12 @@ impl Case {
                 writings: rest.short()?,
                 text: rest.text(),
             },
-            b'r' => Case::ReadRecords {
-                lanes: rest.short()?,
-                records: rest.short()?,
-                order: rest.short()?,
-                text: rest.text(),
-            },
+            b'r' => Case::ReadRecords { lent: rest.lengths()?, text: rest.text() },
+            b'm' => Case::ReadMoves { lent: rest.lengths()?, text: rest.text() },
             b'a' => Case::PrintTo { out: rest.short()?, text: rest.text() },
-            b'm' => Case::ReadMoves {
-                lanes: rest.short()?,
-                moves: rest.short()?,
-                order: rest.short()?,
-                text: rest.text(),
-            },
             b'p' => Case::PlanRecords { table: rest.short()?, job: rest.recorded()? },
             b't' => Case::PlanLists {
-                lent: [rest.short()?, rest.short()?, rest.short()?],
+                lent: rest.lengths()?,
                 hall: rest.hall()?,
                 moves: rest.list()?,
                 order: rest.list()?,

@@ -1,83 +1,20 @@
 // Entries of a sound job text changed so that they break a check, one function
 // each, and some that repeat the ends of an earlier carrier, which breaks none
-// and hides none. A draft is a text as lines, with the job that it came from,
-// so that a damage can pick a number that is no node or that stands earlier.
+// and hides none. Those that have to do with closed nodes stand in a file of
+// their own.
 // Nothing here says which refusal comes out, or whether one does.
 
+use crate::damage_closed::CLOSED_DAMAGES;
 use crate::dice::Dice;
-use crate::job::Job;
-use crate::text;
+use crate::draft::Draft;
 
-pub struct Draft {
-    job: Job,
-    pub lines: Vec<Vec<u8>>,
-}
-
-impl Draft {
-    pub fn of(job: Job) -> Draft {
-        let lines = text::lines_of(&job);
-        Draft { job, lines }
-    }
-
-    fn lanes(&self) -> usize {
-        self.job.hall.lane_numbers.len() / 2
-    }
-
-    fn carriers(&self) -> usize {
-        self.job.moves.len()
-    }
-
-    fn set_count(&mut self, line: usize, heading: &str, count: usize) -> usize {
-        self.lines[line] = format!("{} {}", heading, count).into_bytes();
-        line
-    }
-
-    fn set_lane(&mut self, lane: usize, first: usize, second: usize) -> usize {
-        let line = 2 + lane;
-        self.lines[line] = format!("{} {}", first, second).into_bytes();
-        line
-    }
-
-    fn set_move(&mut self, carrier: usize, start: usize, goal: usize) -> usize {
-        let line = 3 + self.lanes() + carrier;
-        self.lines[line] = format!("{} {}", start, goal).into_bytes();
-        line
-    }
-
-    fn set_entry(&mut self, place: usize, entry: usize) -> usize {
-        let line = 4 + self.lanes() + self.carriers() + place;
-        self.lines[line] = entry.to_string().into_bytes();
-        line
-    }
-
-    fn some_lane(&self, dice: &mut Dice) -> (usize, usize, usize) {
-        let lane = dice.below(self.lanes());
-        let (first, second) = self.job.hall.lanes()[lane];
-        (lane, first.into(), second.into())
-    }
-
-    /// A carrier other than 0, its start and goal, and those of one before it.
-    fn some_move(&self, dice: &mut Dice) -> (usize, [usize; 2], [usize; 2]) {
-        let carrier = dice.between(1, self.carriers() - 1);
-        let before = self.job.moves[dice.below(carrier)];
-        let asked = self.job.moves[carrier];
-        let ends = |one: crate::job::Move| [usize::from(one.start), usize::from(one.goal)];
-        (carrier, ends(asked), ends(before))
-    }
-
-    fn no_node(&self, dice: &mut Dice) -> usize {
-        let nodes = self.job.hall.nodes as usize;
-        dice.pick(&[nodes, nodes, nodes + 1, 1023.max(nodes), 1024, 1025, 9999])
-    }
-}
-
-fn near(dice: &mut Dice, count: usize, limit: usize) -> usize {
+pub fn near(dice: &mut Dice, count: usize, limit: usize) -> usize {
     dice.pick(&[count + 1, count + 1, count.saturating_sub(1), 0, limit, limit + 1, 9999])
 }
 
 /// Spoils an entry and says on which line. The draft must have two lanes and
 /// two carriers at least, and all its lines.
-type EntryDamage = fn(&mut Draft, &mut Dice) -> usize;
+pub type EntryDamage = fn(&mut Draft, &mut Dice) -> usize;
 
 pub const ENTRY_DAMAGES: &[EntryDamage] = &[
     |draft, dice| {
@@ -91,11 +28,11 @@ pub const ENTRY_DAMAGES: &[EntryDamage] = &[
     },
     |draft, dice| {
         let count = near(dice, draft.carriers(), 64);
-        draft.set_count(2 + draft.lanes(), "CARRIERS", count)
+        draft.set_count(draft.line_of_carriers(), "CARRIERS", count)
     },
     |draft, dice| {
         let count = near(dice, draft.carriers(), 64);
-        draft.set_count(3 + draft.lanes() + draft.carriers(), "ORDER", count)
+        draft.set_count(draft.line_of_order(), "ORDER", count)
     },
     |draft, dice| {
         let (lane, first, second) = draft.some_lane(dice);
@@ -208,3 +145,8 @@ pub const ENTRY_DAMAGES: &[EntryDamage] = &[
         draft.set_entry(place, entry.into())
     },
 ];
+
+/// All damages to entries, those of closed nodes last.
+pub fn entry_damages() -> Vec<EntryDamage> {
+    [ENTRY_DAMAGES, CLOSED_DAMAGES].concat()
+}

@@ -104,7 +104,7 @@ pub const FORM_DAMAGES: &[FormDamage] = &[
     // The heading of another section, or of none.
     |line, dice| {
         let heading: &[u8] =
-            dice.pick(&[&b"NODES"[..], b"LANES", b"CARRIERS", b"ORDER", b"NODE", b"CARRIER"]);
+            dice.pick(&[&b"NODES"[..], b"LANES", b"CLOSED", b"CARRIERS", b"ORDER", b"CARRIER"]);
         line.splice(..first_digit(line).saturating_sub(1), heading.iter().copied());
     },
     // A digit of another script: three bytes of the kind "other".
@@ -135,7 +135,8 @@ pub const LINE_DAMAGES: &[LineDamage] = &[
     },
     |lines, dice| {
         let at = dice.below(lines.len() + 1);
-        let extra: &[u8] = dice.pick(&[&b"0"[..], b"0 1", b"NODES 2", b"# note", b"ORDER 0"]);
+        let extra: &[u8] =
+            dice.pick(&[&b"0"[..], b"0 1", b"NODES 2", b"CLOSED 1", b"# note", b"ORDER 0"]);
         lines.insert(at, extra.to_vec());
     },
     // Only the first lines.
@@ -177,6 +178,7 @@ const TAILS: &[&[u8]] = &[
     b"\n\n",
     b"NODES 1\n",
     b"ORDER 0\n",
+    b"CLOSED 1\n0\n",
     b"CARRIERS 0\nORDER 0\n",
     b"\x1a",
     b"\xff\xfe",

@@ -1,7 +1,8 @@
 // Ways to spoil a job or a network given as numbers, for the refusals that
 // only planning from numbers can give or whose order differs there: all
-// counts before all entries, and an odd list of lanes. Some repeat the ends of
-// another carrier, which is no fault by itself and hides none.
+// counts before all entries, and an odd list of lanes. Some close nodes that
+// are ends or that cut a walk. Some repeat the ends of another carrier, which is
+// no fault by itself and hides none.
 // Several can strike one job; none of them says which refusal comes out.
 
 use crate::dice::Dice;
@@ -66,7 +67,44 @@ pub const HALL_DAMAGES: &[HallDamage] = &[
         let left = hall.lanes().into_iter().filter(|&(a, b)| a != lonely && b != lonely);
         hall.lane_numbers = left.flat_map(|(first, second)| [first, second]).collect();
     },
+    |hall, dice| {
+        // One node is closed, which may cut a walk or be an end.
+        let node = dice.below(hall.nodes.clamp(1, 1024) as usize) as u16;
+        close(hall, node);
+    },
+    |hall, _| hall.closed = (0..hall.nodes.min(1024) as u16).collect(),
+    |hall, _| hall.closed.clear(),
+    |hall, dice| {
+        // An entry that is no node, in place of one or behind all.
+        let place = dice.below(hall.closed.len() + 1);
+        let node = no_node(hall, dice);
+        hall.closed.truncate(place);
+        hall.closed.push(node);
+    },
+    |hall, dice| {
+        // An entry stands twice, or two entries change places.
+        close(hall, 0);
+        let place = dice.below(hall.closed.len());
+        hall.closed.insert(place, hall.closed[place]);
+        let other = dice.below(hall.closed.len());
+        hall.closed.swap(place, other);
+    },
+    |hall, dice| {
+        // Too many entries, be they rising or not.
+        let count = dice.pick(&[1025, 1025, 1026, 1100, 2000]);
+        match dice.below(2) {
+            0 => hall.closed = (0..count).collect(),
+            _ => hall.closed.resize(count.into(), 0),
+        }
+    },
 ];
+
+/// Closes one node more, in its place.
+fn close(hall: &mut Hall, node: u16) {
+    if let Err(place) = hall.closed.binary_search(&node) {
+        hall.closed.insert(place, node);
+    }
+}
 
 type JobDamage = fn(&mut Job, &mut Dice);
 
@@ -152,6 +190,23 @@ pub const JOB_DAMAGES: &[JobDamage] = &[
         if !job.order.is_empty() {
             let place = dice.below(job.order.len());
             job.order[place] = job.order[dice.below(place.max(1))];
+        }
+    },
+    |job, dice| {
+        // An end is closed.
+        if let Some(carrier) = some_carrier(job, dice) {
+            let asked = job.moves[carrier];
+            close(&mut job.hall, dice.pick(&[asked.start, asked.goal]));
+        }
+    },
+    |job, dice| {
+        // Two carriers have a closed end, one of them also equal ends or an end
+        // that is no node.
+        if let (Some(one), Some(other)) = (some_carrier(job, dice), some_carrier(job, dice)) {
+            close(&mut job.hall, job.moves[one].start);
+            close(&mut job.hall, job.moves[other].goal);
+            let no_node = no_node(&job.hall, dice);
+            job.moves[one].goal = dice.pick(&[job.moves[one].start, no_node]);
         }
     },
 ];

@@ -1,7 +1,8 @@
 // How the carriers of a job get their starts and goals. Any number of carriers
 // may have one start, one goal or both, so a job may have more carriers than
 // nodes. Ends are dealt in several ways, taken by dice: in about a quarter of
-// the jobs no end is shared, in the others few nodes serve many carriers.
+// the jobs no end is shared, in the others few nodes serve many carriers. No
+// end is a closed node.
 
 use crate::dice::Dice;
 use crate::job::{Hall, Move};
@@ -17,8 +18,11 @@ impl Floor {
     /// Which nodes can be the goal of a move from this start, by node number.
     fn goals_of(&self, start: usize) -> Vec<bool> {
         let reach = self.network.distances_from(start);
+        let is_open = |node: usize| self.network.is_open(node);
         (0..self.network.nodes())
-            .map(|goal| goal != start && (!self.reachable || reach[goal].is_some()))
+            .map(|goal| goal != start && is_open(start) && is_open(goal))
+            .zip(reach)
+            .map(|(fits, distance)| fits && (!self.reachable || distance.is_some()))
             .collect()
     }
 

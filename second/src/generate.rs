@@ -1,19 +1,22 @@
-// A batch: all small networks, the systematic faults, trains, the limits, lent
-// tables of all lengths, as many random cases as asked for, and jobs that are
-// written as texts. Random cases take turns through every kind and every
-// damage, so that even a short run has some of each.
+// A batch: all small networks, also with closed nodes, the systematic faults,
+// trains, the limits, lent tables of all lengths, as many random cases as asked
+// for, and jobs that are written as texts. Random cases take turns through every
+// kind and every damage, so that even a short run has some of each.
 
 use crate::batch::Case;
-use crate::damage_entries::{Draft, ENTRY_DAMAGES};
+use crate::closed_cases::closed_cases;
+use crate::damage_entries::entry_damages;
 use crate::damage_form::{BYTE_DAMAGES, FORM_DAMAGES, LINE_DAMAGES};
 use crate::damage_numbers::{damaged_hall, damaged_job, HALL_DAMAGES, JOB_DAMAGES};
 use crate::dice::Dice;
+use crate::draft::Draft;
 use crate::halls::{ample_job, any_hall, any_job, parted_job, through_one_corridor};
 use crate::job::Job;
 use crate::lent_cases::{lent_cases, random_lent};
 use crate::limits::limit_cases;
 use crate::lists::{proposal, some_move};
 use crate::small::all_small_cases;
+use crate::small_closed::small_closed_cases;
 use crate::systematic::systematic_cases;
 use crate::text;
 use crate::trains::train_cases;
@@ -29,7 +32,8 @@ pub fn one_damage(dice: &mut Dice, turn: usize) -> Vec<u8> {
     let in_group = turn / 3;
     match turn % 9 {
         0 | 3 | 6 => {
-            ENTRY_DAMAGES[in_group % ENTRY_DAMAGES.len()](&mut draft, dice);
+            let damages = entry_damages();
+            damages[in_group % damages.len()](&mut draft, dice);
         }
         1 | 4 | 7 => {
             let line = dice.below(draft.lines.len());
@@ -50,7 +54,7 @@ pub fn several_damages(dice: &mut Dice) -> Vec<u8> {
     let job = ample_job(dice, 16);
     let mut draft = Draft::of(job);
     for _ in 0..dice.between(1, 3) {
-        dice.pick(ENTRY_DAMAGES)(&mut draft, dice);
+        dice.pick(&entry_damages())(&mut draft, dice);
     }
     for _ in 0..dice.below(3) {
         let line = dice.below(draft.lines.len());
@@ -71,10 +75,10 @@ pub fn several_damages(dice: &mut Dice) -> Vec<u8> {
 pub fn two_in_one_line(dice: &mut Dice) -> Vec<u8> {
     let job = ample_job(dice, 16);
     let mut draft = Draft::of(job);
-    let line = dice.pick(ENTRY_DAMAGES)(&mut draft, dice);
+    let line = dice.pick(&entry_damages())(&mut draft, dice);
     dice.pick(FORM_DAMAGES)(&mut draft.lines[line], dice);
     if dice.once_in(2) {
-        dice.pick(ENTRY_DAMAGES)(&mut draft, dice);
+        dice.pick(&entry_damages())(&mut draft, dice);
     }
     text::join(&draft.lines)
 }
@@ -214,7 +218,9 @@ pub fn random_cases(dice: &mut Dice, count: usize) -> Vec<Case> {
 pub fn batch(seed: u64, count: usize) -> Vec<Case> {
     let mut dice = Dice::new(seed);
     let mut cases = all_small_cases();
+    cases.extend(small_closed_cases());
     cases.extend(systematic_cases(&mut dice));
+    cases.extend(closed_cases(&mut dice));
     cases.extend(train_cases(&mut dice));
     cases.extend(limit_cases(&mut dice));
     cases.extend(lent_cases(&mut dice));

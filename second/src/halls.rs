@@ -1,8 +1,10 @@
 // Sound halls and jobs of many shapes for the generator: lines, rings, stars,
 // grids, trees, aisles, ladders, dense and sparse ones, some in two parts.
 // Shapes matter more than chance here: long corridors make late ticks, grids
-// and dense halls make gap 0 and its exception, parts make "no walk".
+// and dense halls make gap 0 and its exception, parts make "no walk". In about
+// a third of the random halls some nodes are closed.
 
+use crate::closing::closed_at_times;
 use crate::dice::Dice;
 use crate::ends::{moves_apart, moves_in};
 use crate::job::{Hall, Job, Move, MOST_CARRIERS, MOST_LANES};
@@ -18,7 +20,7 @@ pub fn hall_of(nodes: usize, lanes: Vec<(usize, usize)>) -> Hall {
     sorted.dedup();
     let lane_numbers =
         sorted.iter().flat_map(|&(lower, higher)| [lower as u16, higher as u16]).collect();
-    Hall { nodes: nodes as u32, lane_numbers }
+    Hall { nodes: nodes as u32, lane_numbers, closed: Vec::new() }
 }
 
 pub fn line(nodes: usize) -> Hall {
@@ -136,13 +138,14 @@ pub fn joined_hall(dice: &mut Dice, nodes: usize) -> Hall {
 
 /// A hall of any shape, joined or not.
 pub fn any_hall(dice: &mut Dice, nodes: usize) -> Hall {
-    match dice.below(8) {
+    let hall = match dice.below(8) {
         0 => two_parts(nodes),
         1 => scattered(dice, nodes, nodes / 2),
         2 => scattered(dice, nodes, nodes),
         3 => scattered(dice, nodes, 3 * nodes),
         _ => joined_hall(dice, nodes),
-    }
+    };
+    closed_at_times(dice, hall)
 }
 
 /// A job with these moves, its order by number or shuffled.
@@ -220,7 +223,8 @@ pub fn parted_job(dice: &mut Dice, most_nodes: usize) -> Job {
         0 => two_parts(nodes),
         _ => scattered(dice, nodes, nodes * 2 / 3),
     };
-    let hall = renumbered(dice, &hall);
+    let renumbered = renumbered(dice, &hall);
+    let hall = closed_at_times(dice, renumbered);
     let carriers = dice.between(1, 8);
     job_over(dice, hall, carriers, false)
 }
@@ -234,5 +238,12 @@ pub fn ample_job(dice: &mut Dice, most_nodes: usize) -> Job {
         0 => dice.between(13, MOST_CARRIERS),
         _ => dice.between(2, 12),
     };
-    job_over(dice, hall, carriers, true)
+    let partly_closed = closed_at_times(dice, hall.clone());
+    let job = job_over(dice, partly_closed, carriers, true);
+    // What is closed may leave too few moves; then nothing is.
+    if job.moves.len() < 2 {
+        job_over(dice, hall, carriers, true)
+    } else {
+        job
+    }
 }

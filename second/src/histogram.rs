@@ -7,8 +7,8 @@
 use crate::answers::{answers_to, Answer};
 use crate::batch::{Case, KINDS};
 use crate::histogram_write::Written;
-use crate::job::Move;
-use crate::lent::job_of_lists;
+use crate::job::Job;
+use crate::lent::{job_of, job_of_lists};
 use crate::paths::Choice;
 use crate::text;
 
@@ -16,13 +16,13 @@ use crate::text;
 struct Row {
     cases: usize,
     accepted: usize,
-    refused: [usize; 12],
+    refused: [usize; 14],
 }
 
 #[derive(Default)]
 struct Extra {
     /// Refusals 2 from numbers by place.
-    places: [usize; 4],
+    places: [usize; 5],
     own: usize,
     spare: usize,
     neither: usize,
@@ -46,19 +46,17 @@ struct Shared {
     none: usize,
     more_than_nodes: usize,
     full: usize,
+    /// Some node is closed.
+    closed: usize,
 }
 
-/// The node count and the moves of an accepted case that is planned.
-fn planned(case: &Case) -> Option<(u32, Vec<Move>)> {
+/// The job of an accepted case that is planned.
+fn planned(case: &Case) -> Option<Job> {
     match case {
-        Case::Plan { text } => text::read(text).ok().map(|job| (job.hall.nodes, job.moves)),
-        Case::PlanNumbers { job } => Some((job.hall.nodes, job.moves.clone())),
-        Case::PlanRecords { job, .. } => {
-            Some((job.hall.nodes, job.records.iter().map(|record| record.asked).collect()))
-        }
-        Case::PlanLists { hall, moves, .. } => {
-            Some((hall.nodes, job_of_lists(hall, moves, &[]).moves))
-        }
+        Case::Plan { text } => text::read(text).ok(),
+        Case::PlanNumbers { job } => Some(job.clone()),
+        Case::PlanRecords { job, .. } => Some(job_of(&job.hall, &job.records, &job.order)),
+        Case::PlanLists { hall, moves, order, .. } => Some(job_of_lists(hall, moves, order)),
         _ => None,
     }
 }
@@ -71,8 +69,8 @@ fn repeats<T: Ord>(mut numbers: Vec<T>) -> bool {
 
 impl Shared {
     fn note(&mut self, case: &Case) {
-        let (nodes, moves) = match planned(case) {
-            Some((nodes, moves)) if moves.len() > 1 => (nodes, moves),
+        let Job { hall, moves, .. } = match planned(case) {
+            Some(job) if job.moves.len() > 1 => job,
             _ => return,
         };
         let start = repeats(moves.iter().map(|asked| asked.start).collect());
@@ -83,22 +81,25 @@ impl Shared {
         let both = repeats(moves.iter().map(|asked| (asked.start, asked.goal)).collect());
         self.both += usize::from(both);
         self.none += usize::from(!start && !goal);
-        self.more_than_nodes += usize::from(moves.len() > nodes as usize);
+        self.more_than_nodes += usize::from(moves.len() > hall.nodes as usize);
         self.full += usize::from(moves.len() == 64);
+        self.closed += usize::from(!hall.closed.is_empty());
     }
 
     fn printed(&self) -> String {
         format!(
             "\naccepted plans of two carriers or more: {}; some two have one start in {}, one goal \
              in {}, both in {}; no end is shared in {}\
-             \nof them with more carriers than nodes: {}, with 64 carriers: {}",
+             \nof them with more carriers than nodes: {}, with 64 carriers: {}, with closed \
+             nodes: {}",
             self.plans,
             self.start,
             self.goal,
             self.both,
             self.none,
             self.more_than_nodes,
-            self.full
+            self.full,
+            self.closed
         )
     }
 }
@@ -152,7 +153,7 @@ pub fn histogram(cases: &[Case]) -> String {
 
 fn printed(rows: &[Row], extra: &Extra, shared: &Shared, written: &Written) -> String {
     let mut out = "kind   cases accepted".to_string();
-    (1..=11).for_each(|number| out += &format!("{:>7}", number));
+    (1..=13).for_each(|number| out += &format!("{:>7}", number));
     for (kind, row) in KINDS.iter().zip(rows) {
         out += &format!("\n{:<4} {:>7} {:>8}", *kind as char, row.cases, row.accepted);
         row.refused[1..].iter().for_each(|count| out += &format!("{:>7}", count));

@@ -21,6 +21,8 @@ pub struct Written {
     /// Some carrier has no walk, or the moves are a list of odd length.
     no_walk: usize,
     odd: usize,
+    /// Some node is closed.
+    closed: usize,
     /// As many lanes or as many carriers as there may be.
     full: usize,
 }
@@ -59,6 +61,7 @@ impl Written {
         self.written += 1;
         self.no_walk += usize::from(Distances::of(&job).own().is_err());
         self.odd += usize::from(odd);
+        self.closed += usize::from(!job.hall.closed.is_empty());
         let full =
             job.hall.lane_numbers.len() == 2 * MOST_LANES || job.moves.len() == MOST_CARRIERS;
         self.full += usize::from(full);
@@ -68,7 +71,7 @@ impl Written {
         format!(
             "\ncases of writing: {}; written {}, with texts of {} to {} bytes; refused {}\
              \nof the written jobs {} have a carrier without a walk, {} an odd list of moves, \
-             {} 4,096 lanes or 64 carriers",
+             {} closed nodes, {} 4,096 lanes or 64 carriers",
             self.cases,
             self.written,
             self.least,
@@ -76,6 +79,7 @@ impl Written {
             self.refused,
             self.no_walk,
             self.odd,
+            self.closed,
             self.full
         )
     }

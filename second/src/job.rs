@@ -1,6 +1,6 @@
-// A job as plain numbers, with the checks 2, 3, 4, 5 and 7 of the rules on it.
-// The number 6 is not in use: any number of carriers may have one start, one
-// goal or both.
+// A job as plain numbers, with the checks 2, 3, 4, 5, 7, 12 and 13 of the rules
+// on it. The number 6 is not in use: any number of carriers may have one start,
+// one goal or both.
 // Lanes stand as a flat list, two numbers a lane, because from numbers the
 // list may have an odd length and that is a refusal of its own.
 // Each single check is one small function, so that reading a text and
@@ -8,6 +8,7 @@
 
 pub const MOST_NODES: u32 = 1024;
 pub const MOST_LANES: usize = 4096;
+pub const MOST_CLOSED: usize = 1024;
 pub const MOST_CARRIERS: usize = 64;
 
 /// A refusal: its number in the rules, and the line (of a text) or the place (from
@@ -28,10 +29,12 @@ pub struct Move {
     pub goal: u16,
 }
 
+/// A network: its nodes, its lanes, and the nodes that nobody may stand on.
 #[derive(Clone, Debug, PartialEq, Eq)]
 pub struct Hall {
     pub nodes: u32,
     pub lane_numbers: Vec<u16>,
+    pub closed: Vec<u16>,
 }
 
 #[derive(Clone, Debug, PartialEq, Eq)]
@@ -57,13 +60,21 @@ pub fn lane_is_faulty(nodes: u32, before: Option<(u16, u16)>, lane: (u16, u16)) 
     no_node || first >= second || not_rising
 }
 
-/// Checks 4 and 5 for one move, in that order. Other moves play no part.
-pub fn move_fault(nodes: u32, asked: Move) -> Option<u8> {
+/// Check 12 for one closed node and the one before it.
+pub fn closed_entry_is_faulty(nodes: u32, before: Option<u16>, entry: u16) -> bool {
+    u32::from(entry) >= nodes || before.map_or(false, |earlier| entry <= earlier)
+}
+
+/// Checks 4, 5 and 13 for one move, in that order. Other moves play no part.
+pub fn move_fault(nodes: u32, closed: &[u16], asked: Move) -> Option<u8> {
     if u32::from(asked.start) >= nodes || u32::from(asked.goal) >= nodes {
         return Some(4);
     }
     if asked.start == asked.goal {
         return Some(5);
+    }
+    if closed.contains(&asked.start) || closed.contains(&asked.goal) {
+        return Some(13);
     }
     None
 }
@@ -87,6 +98,9 @@ impl Hall {
         if self.lane_numbers.len() % 2 == 1 || self.lane_numbers.len() / 2 > MOST_LANES {
             return refuse(2, 1);
         }
+        if self.closed.len() > MOST_CLOSED {
+            return refuse(2, 4);
+        }
         Ok(())
     }
 
@@ -101,11 +115,29 @@ impl Hall {
         Ok(())
     }
 
-    /// Checks 2 to 5 for a network and one move: the place of 4 and 5 is 0.
-    pub fn check_with_move(&self, asked: Move) -> Result<(), Refusal> {
+    fn check_closed(&self) -> Result<(), Refusal> {
+        let mut before = None;
+        for (place, &entry) in self.closed.iter().enumerate() {
+            if closed_entry_is_faulty(self.nodes, before, entry) {
+                return refuse(12, place);
+            }
+            before = Some(entry);
+        }
+        Ok(())
+    }
+
+    /// Checks 2, 3 and 12 of a network by itself.
+    pub fn check(&self) -> Result<(), Refusal> {
         self.check_counts()?;
         self.check_lanes()?;
-        match move_fault(self.nodes, asked) {
+        self.check_closed()
+    }
+
+    /// The checks of a network and then 4, 5 and 13 of one move, whose place is
+    /// 0.
+    pub fn check_with_move(&self, asked: Move) -> Result<(), Refusal> {
+        self.check()?;
+        match move_fault(self.nodes, &self.closed, asked) {
             Some(number) => refuse(number, 0),
             None => Ok(()),
         }
@@ -113,7 +145,8 @@ impl Hall {
 }
 
 impl Job {
-    /// Checks 2 to 5 and 7 from numbers: all counts come before all entries.
+    /// Checks 2, 3, 12, then 4, 5 and 13 move by move, then 7, from numbers: all
+    /// counts come before all entries.
     pub fn check(&self) -> Result<(), Refusal> {
         self.hall.check_counts()?;
         if self.moves.len() > MOST_CARRIERS {
@@ -123,8 +156,9 @@ impl Job {
             return refuse(2, 3);
         }
         self.hall.check_lanes()?;
+        self.hall.check_closed()?;
         for (carrier, &asked) in self.moves.iter().enumerate() {
-            if let Some(number) = move_fault(self.hall.nodes, asked) {
+            if let Some(number) = move_fault(self.hall.nodes, &self.hall.closed, asked) {
                 return refuse(number, carrier);
             }
         }

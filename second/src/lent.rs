@@ -2,14 +2,14 @@
 // the mark before, and each table is lent up to a length of its own. The
 // answer tells all places, those past the lent part too, so that a program
 // that writes where it may not, or leaves a place as it was, is found out.
-// Section 9 of the rules is written down here in its own order: refusal 9
-// before all else, least lengths, what is filled and what stays.
+// Section 9 of the rules is written down here: refusal 9 before all else, least
+// lengths, what is filled and what stays. Reading, planning and writing have
+// files of their own; printing and paths are here.
 
-use crate::job::{refuse, Hall, Job, Move, Refusal, MOST_CARRIERS, MOST_LANES, MOST_NODES};
+use crate::job::{
+    refuse, Hall, Job, Move, Refusal, MOST_CARRIERS, MOST_CLOSED, MOST_LANES, MOST_NODES,
+};
 use crate::paths::{choose, house_path_of_carrier, house_path_of_move, judge_for_carrier, Choice};
-use crate::plan::{plan, Plan};
-use crate::rule::Distances;
-use crate::text;
 
 pub const MARK: u32 = 7777;
 /// The mark of a lent byte.
@@ -18,6 +18,7 @@ pub const BYTE_MARK: u32 = 77;
 /// How many places the batch program has for each table. A longer one is not
 /// lent; the generator stays below.
 pub const LANE_PLACES: usize = 8300;
+pub const CLOSED_PLACES: usize = 1100;
 pub const RECORD_PLACES: usize = 80;
 pub const ORDER_PLACES: usize = 100;
 pub const MOVE_PLACES: usize = 200;
@@ -28,6 +29,7 @@ pub const BYTE_PLACES: usize = 2100;
 
 /// The least lengths.
 pub const LEAST_LANES: usize = 2 * MOST_LANES;
+pub const LEAST_CLOSED: usize = MOST_CLOSED;
 pub const LEAST_RECORDS: usize = MOST_CARRIERS;
 pub const LEAST_ORDER: usize = MOST_CARRIERS;
 pub const LEAST_MOVES: usize = 2 * MOST_CARRIERS;
@@ -52,12 +54,12 @@ pub struct Lent {
 }
 
 /// A table that no question has touched.
-fn untouched(places: usize) -> Vec<u32> {
+pub fn untouched(places: usize) -> Vec<u32> {
     vec![MARK; places]
 }
 
 /// A table with the numbers at its front and zeros up to its least length.
-fn filled(places: usize, least: usize, numbers: &[u32]) -> Vec<u32> {
+pub fn filled(places: usize, least: usize, numbers: &[u32]) -> Vec<u32> {
     let mut table = untouched(places);
     for (at, place) in table[..least].iter_mut().enumerate() {
         *place = numbers.get(at).copied().unwrap_or(0);
@@ -65,12 +67,12 @@ fn filled(places: usize, least: usize, numbers: &[u32]) -> Vec<u32> {
     table
 }
 
-fn wide(numbers: &[u16]) -> Vec<u32> {
+pub fn wide(numbers: &[u16]) -> Vec<u32> {
     numbers.iter().map(|&number| number.into()).collect()
 }
 
 /// The columns of records as they came, with marks behind them.
-pub struct Columns([Vec<u32>; 4]);
+pub struct Columns(pub [Vec<u32>; 4]);
 
 impl Columns {
     pub fn of(records: &[Record]) -> Columns {
@@ -94,80 +96,6 @@ impl Columns {
     }
 }
 
-/// Reading a text, whatever takes the moves. `None` stands for a table that
-/// is too short.
-fn reading(enough: bool, read: &[u8]) -> Option<Result<Job, Refusal>> {
-    enough.then(|| text::read(read))
-}
-
-fn said_of_reading(read: &Option<Result<Job, Refusal>>) -> Result<String, Refusal> {
-    match read {
-        None => refuse(9, 0),
-        Some(Err(refusal)) => Err(*refusal),
-        Some(Ok(job)) => {
-            let lanes = job.hall.lane_numbers.len() / 2;
-            Ok(format!("READ {} {} {}", job.hall.nodes, lanes, job.moves.len()))
-        }
-    }
-}
-
-/// A table after reading, from the numbers that it takes of a job.
-fn after_reading(
-    read: &Option<Result<Job, Refusal>>,
-    places: usize,
-    least: usize,
-    numbers: impl Fn(&Job) -> Vec<u32>,
-) -> Vec<u32> {
-    match read {
-        None => untouched(places),
-        Some(Err(_)) => filled(places, least, &[]),
-        Some(Ok(job)) => filled(places, least, &numbers(job)),
-    }
-}
-
-fn lanes_of(job: &Job) -> Vec<u32> {
-    wide(&job.hall.lane_numbers)
-}
-
-fn moves_of(job: &Job) -> Vec<u32> {
-    job.moves.iter().flat_map(|asked| [asked.start.into(), asked.goal.into()]).collect()
-}
-
-pub fn read_to_records(lanes: u16, records: u16, order: u16, text: &[u8]) -> Lent {
-    let enough = usize::from(lanes) >= LEAST_LANES
-        && usize::from(records) >= LEAST_RECORDS
-        && usize::from(order) >= LEAST_ORDER;
-    let read = reading(enough, text);
-    let column = |numbers: fn(&Move) -> u32| {
-        after_reading(&read, RECORD_PLACES, LEAST_RECORDS, |job| {
-            job.moves.iter().map(numbers).collect()
-        })
-    };
-    let columns = Columns([
-        column(|asked| asked.start.into()),
-        column(|asked| asked.goal.into()),
-        column(|_| 0),
-        column(|_| 0),
-    ]);
-    let mut tables = vec![("lanes", after_reading(&read, LANE_PLACES, LEAST_LANES, lanes_of))];
-    tables.extend(columns.named());
-    tables.push(("order", after_reading(&read, ORDER_PLACES, LEAST_ORDER, |job| wide(&job.order))));
-    Lent { said: said_of_reading(&read), tables }
-}
-
-pub fn read_to_moves(lanes: u16, moves: u16, order: u16, text: &[u8]) -> Lent {
-    let enough = usize::from(lanes) >= LEAST_LANES
-        && usize::from(moves) >= LEAST_MOVES
-        && usize::from(order) >= LEAST_ORDER;
-    let read = reading(enough, text);
-    let tables = vec![
-        ("lanes", after_reading(&read, LANE_PLACES, LEAST_LANES, lanes_of)),
-        ("moves", after_reading(&read, MOVE_PLACES, LEAST_MOVES, moves_of)),
-        ("order", after_reading(&read, ORDER_PLACES, LEAST_ORDER, |job| wide(&job.order))),
-    ];
-    Lent { said: said_of_reading(&read), tables }
-}
-
 /// Printing into bytes: the text, zeros up to the least length, marks beyond.
 /// Into fewer bytes nothing is printed, and no refusal has a number for it.
 pub fn print_to(out: u16, printed: &str) -> Lent {
@@ -182,96 +110,15 @@ pub fn print_to(out: u16, printed: &str) -> Lent {
     Lent { said: Ok(format!("BYTES {}", count)), tables: vec![("out", bytes)] }
 }
 
-/// The distance table of a job that was planned: three blocks, a row of 64
-/// for each carrier, 65,535 where no walk joins the two nodes.
-fn distance_table(job: &Job) -> Vec<u32> {
-    let distances = Distances::of(job);
-    let mut table = vec![0; LEAST_TABLE];
-    let blocks = [&distances.start_to_start, &distances.start_to_goal, &distances.goal_to_goal];
-    for (block, rows) in blocks.into_iter().enumerate() {
-        for (i, row) in rows.iter().enumerate() {
-            for (j, distance) in row.iter().enumerate() {
-                table[BLOCK * block + MOST_CARRIERS * i + j] = match distance {
-                    Some(distance) => *distance as u32,
-                    None => 65_535,
-                };
-            }
-        }
-    }
-    table
-}
-
-fn planned_or_short(enough: bool, job: &Job) -> Result<Plan, Refusal> {
-    if enough {
-        plan(job)
-    } else {
-        refuse(9, 0)
-    }
-}
-
-/// A table that planning fills, from what it takes of an accepted job.
-fn after_planning(
-    planned: &Result<Plan, Refusal>,
-    places: usize,
-    least: usize,
-    numbers: impl Fn(&Plan) -> Vec<u32>,
-) -> Vec<u32> {
-    match planned {
-        Err(Refusal { number: 9, .. }) => untouched(places),
-        Err(_) => filled(places, least, &[]),
-        Ok(plan) => filled(places, least, &numbers(plan)),
-    }
-}
-
-fn said_of_planning(planned: &Result<Plan, Refusal>) -> Result<String, Refusal> {
-    planned.as_ref().map(|plan| format!("COST {}", plan.cost())).map_err(|refusal| *refusal)
-}
-
-fn times(numbers: &[i64]) -> Vec<u32> {
-    numbers.iter().map(|&number| number as u32).collect()
-}
-
 pub fn job_of(hall: &Hall, records: &[Record], order: &[u16]) -> Job {
     let moves = records.iter().map(|record| record.asked).collect();
     Job { hall: hall.clone(), moves, order: order.to_vec() }
-}
-
-pub fn plan_records(table: u16, hall: &Hall, records: &[Record], order: &[u16]) -> Lent {
-    let job = job_of(hall, records, order);
-    let planned = planned_or_short(usize::from(table) >= LEAST_TABLE, &job);
-    let mut left = records.to_vec();
-    if let Ok(plan) = &planned {
-        for (carrier, record) in left.iter_mut().enumerate() {
-            record.distance = plan.distances[carrier] as u16;
-            record.tick = plan.ticks[carrier] as u32;
-        }
-    }
-    let filled = after_planning(&planned, TABLE_PLACES, LEAST_TABLE, |_| distance_table(&job));
-    let mut tables = vec![("table", filled)];
-    tables.extend(Columns::of(&left).named());
-    Lent { said: said_of_planning(&planned), tables }
 }
 
 /// The job of lists: an odd last number of the moves is in no move.
 pub fn job_of_lists(hall: &Hall, moves: &[u16], order: &[u16]) -> Job {
     let moves = moves.chunks_exact(2).map(|two| Move { start: two[0], goal: two[1] }).collect();
     Job { hall: hall.clone(), moves, order: order.to_vec() }
-}
-
-pub fn plan_lists(lent: [u16; 3], hall: &Hall, moves: &[u16], order: &[u16]) -> Lent {
-    let job = job_of_lists(hall, moves, order);
-    let least = [LEAST_TABLE, LEAST_TIMES, LEAST_TIMES];
-    let enough = lent.into_iter().zip(least).all(|(length, least)| usize::from(length) >= least);
-    let planned = planned_or_short(enough, &job);
-    let tables = vec![
-        ("table", after_planning(&planned, TABLE_PLACES, LEAST_TABLE, |_| distance_table(&job))),
-        (
-            "distances",
-            after_planning(&planned, TIME_PLACES, LEAST_TIMES, |plan| times(&plan.distances)),
-        ),
-        ("ticks", after_planning(&planned, TIME_PLACES, LEAST_TIMES, |plan| times(&plan.ticks))),
-    ];
-    Lent { said: said_of_planning(&planned), tables }
 }
 
 /// The list of a house path, after the path or the refusal.

@@ -9,7 +9,7 @@ use crate::write::write;
 
 /// How many bytes the batch program has for a text. More are not lent; the
 /// generator stays below.
-pub const TEXT_PLACES: usize = 42_100;
+pub const TEXT_PLACES: usize = 47_232;
 
 fn written(out: u16, job: &Job) -> Lent {
     let mut bytes = vec![BYTE_MARK as u8; TEXT_PLACES];

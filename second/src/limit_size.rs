@@ -1,15 +1,17 @@
 // The limit-size jobs of the benchmark, by name: 1,024 nodes and 64 carriers
-// each, and no end is shared. A batch repeats one of them, so that its time is
+// each, and no end is shared. In one of them 300 nodes are closed; its lanes are
+// those of the random one. A batch repeats one of them, so that its time is
 // that of planning and not of starting a program. Reading and writing are
 // measured on the longest text that is accepted, many times in each case.
 
 use crate::batch::Case;
+use crate::closing::with_closed;
 use crate::dice::Dice;
 use crate::halls::{grid, job_apart, line, renumbered, scattered, zigzag};
 use crate::program_texts::longest_job;
 use crate::text;
 
-pub const NAMES: [&str; 5] = ["line", "grid", "random", "renumbered", "zigzag"];
+pub const NAMES: [&str; 6] = ["line", "grid", "random", "renumbered", "zigzag", "closed"];
 
 /// A batch of `count` times the named job, or nothing for another name.
 pub fn batch(name: &str, count: usize) -> Option<Vec<Case>> {
@@ -20,6 +22,10 @@ pub fn batch(name: &str, count: usize) -> Option<Vec<Case>> {
         "random" => scattered(&mut dice, 1024, 4096),
         "renumbered" => renumbered(&mut dice, &line(1024)),
         "zigzag" => zigzag(1024),
+        "closed" => {
+            let random = scattered(&mut dice, 1024, 4096);
+            with_closed(&mut dice, random, 300)
+        }
         _ => return None,
     };
     let text = text::write(&job_apart(&mut dice, hall, 64, true));

@@ -207,11 +207,11 @@ fn paths_at_the_limits(dice: &mut Dice) -> Vec<Case> {
     cases
 }
 
-/// Texts longer than 42,001 bytes, which no accepted text can be.
+/// Texts longer than 47,133 bytes, which no accepted text can be.
 fn long_texts(dice: &mut Dice) -> Vec<Case> {
     let full = text::write(&full_random(dice, 4096, 64));
     let small = text::write(&to_and_fro(line(5), 2));
-    let tail = |byte: u8| vec![byte; 45_000];
+    let tail = |byte: u8| vec![byte; 48_000];
     let noise: Vec<u8> = (0..50_000).map(|_| dice.word() as u8).collect();
     vec![
         plan_case([&full[..], &tail(b'\n')].concat()),
@@ -223,8 +223,8 @@ fn long_texts(dice: &mut Dice) -> Vec<Case> {
         plan_case([&small[..small.len() - 1], &tail(b'0'), b"\n"].concat()),
         plan_case([b"NODES ", &tail(b'1')[..], b"\n"].concat()),
         plan_case([b"NODES 5", &tail(b' ')[..], b"\n"].concat()),
-        plan_case([b"NODES 5\nLANES 4097\n", &b"0 1\n".repeat(11_000)[..]].concat()),
-        plan_case([b"NODES 5\nLANES 4096\n", &b"0 1\n".repeat(11_000)[..]].concat()),
+        plan_case([b"NODES 5\nLANES 4097\n", &b"0 1\n".repeat(12_000)[..]].concat()),
+        plan_case([b"NODES 5\nLANES 4096\n", &b"0 1\n".repeat(12_000)[..]].concat()),
         plan_case(tail(b'\n')),
         plan_case(noise),
         plan_case(vec![b'7'; 200_000]),

@@ -1,5 +1,7 @@
 // Lists of nodes that the drive shop might propose for a move: shortest paths
 // chosen at random, and lists that fail in one of the terms or in several.
+// Where nodes are closed, some lists are those of a shop that does not know it:
+// shortest paths of the hall with all its nodes open.
 // A move without a walk gets arbitrary lists, because then none can pass.
 
 use crate::dice::Dice;
@@ -111,6 +113,10 @@ const LIST_DAMAGES: &[ListDamage] = &[
 
 /// A list for a move: sound in about half of the cases that allow it.
 pub fn proposal(dice: &mut Dice, hall: &Hall, asked: Move) -> Vec<u16> {
+    if !hall.closed.is_empty() && dice.once_in(3) {
+        let all_open = Hall { closed: Vec::new(), ..hall.clone() };
+        return proposal(dice, &all_open, asked);
+    }
     let network = Network::of(hall);
     match random_shortest(dice, &network, asked) {
         None => arbitrary(dice, hall.nodes as usize),
@@ -125,8 +131,8 @@ pub fn proposal(dice: &mut Dice, hall: &Hall, asked: Move) -> Vec<u16> {
     }
 }
 
-/// A move in a hall: mostly with a walk, sometimes with none, with equal ends
-/// or with an end that is no node.
+/// A move in a hall: mostly with a walk, sometimes with none, with equal ends,
+/// with a closed end or with an end that is no node.
 pub fn some_move(dice: &mut Dice, hall: &Hall) -> Move {
     let nodes = hall.nodes as usize;
     let network = Network::of(hall);

@@ -1,6 +1,7 @@
 // The lanes of a hall as a bitmap with one row of bits a node, and distances
 // from one node by level sets: the nodes at distance s + 1 are all neighbours
-// of the nodes at distance s that no earlier level holds.
+// of the nodes at distance s that no earlier level holds. A lane with a closed
+// node at either end is in no row, since nobody can take it.
 // A distance is an optional number. "No walk" is the absence of one, so it
 // cannot slip into a sum.
 
@@ -10,6 +11,8 @@ pub struct Network {
     nodes: usize,
     words: usize,
     rows: Vec<u64>,
+    /// Whether one may stand on a node, by node number.
+    open: Vec<bool>,
 }
 
 fn mark(set: &mut [u64], node: usize) {
@@ -25,9 +28,14 @@ impl Network {
     pub fn of(hall: &Hall) -> Network {
         let nodes = hall.nodes as usize;
         let words = (nodes + 63) / 64;
-        let mut network = Network { nodes, words, rows: vec![0; nodes * words] };
+        let mut open = vec![true; nodes];
+        hall.closed.iter().for_each(|&node| open[usize::from(node)] = false);
+        let mut network = Network { nodes, words, rows: vec![0; nodes * words], open };
         for (first, second) in hall.lanes() {
             let (first, second) = (usize::from(first), usize::from(second));
+            if !network.open[first] || !network.open[second] {
+                continue;
+            }
             mark(&mut network.rows[first * words..(first + 1) * words], second);
             mark(&mut network.rows[second * words..(second + 1) * words], first);
         }
@@ -38,23 +46,32 @@ impl Network {
         self.nodes
     }
 
+    pub fn is_open(&self, node: usize) -> bool {
+        self.open[node]
+    }
+
     fn row(&self, node: usize) -> &[u64] {
         &self.rows[node * self.words..(node + 1) * self.words]
     }
 
-    /// Whether a lane joins the two; a number that is no node joins nothing.
+    /// Whether a lane joins the two and both are open; a number that is no node
+    /// joins nothing.
     pub fn joined(&self, first: usize, second: usize) -> bool {
         first < self.nodes && second < self.nodes && holds(self.row(first), second)
     }
 
-    /// All neighbours of a node, lowest number first.
+    /// All open neighbours of an open node, lowest number first.
     pub fn neighbours(&self, node: usize) -> Vec<usize> {
         (0..self.nodes).filter(|&other| self.joined(node, other)).collect()
     }
 
-    /// The distance of every node from one node, by node number.
+    /// The distance of every node from one node, by node number. From a closed
+    /// node there is none, not even to itself.
     pub fn distances_from(&self, origin: usize) -> Vec<Option<i64>> {
         let mut distances = vec![None; self.nodes];
+        if !self.open[origin] {
+            return distances;
+        }
         let mut seen = vec![0; self.words];
         let mut level = vec![origin];
         mark(&mut seen, origin);

@@ -1,8 +1,9 @@
 // The cases P1 to P11 of page 01 as jobs, with the ticks or the refusal that
-// the page gives, and the cases of carriers that share an end (rule 11.14).
+// the page gives, the cases of carriers that share an end (rule 11.14), and a
+// hall before and after floor plates are taken up.
 // The selftest plans them, and every batch holds them.
 
-use crate::halls::line;
+use crate::halls::{grid, line};
 use crate::job::{refuse, Hall, Job, Move, Refusal};
 
 /// A job whose order is that of the carrier numbers.
@@ -13,7 +14,7 @@ pub fn job(hall: Hall, moves: &[(u16, u16)]) -> Job {
 }
 
 pub fn hall(nodes: u32, lane_numbers: &[u16]) -> Hall {
-    Hall { nodes, lane_numbers: lane_numbers.to_vec() }
+    Hall { nodes, lane_numbers: lane_numbers.to_vec(), closed: Vec::new() }
 }
 
 /// P4.
@@ -83,4 +84,17 @@ pub fn shared_cases() -> Vec<(Job, Vec<i64>, i64)> {
         (job(line(4), &[(0, 1), (2, 1)]), vec![0, 1], 3),
         (job(line(5), &[(0, 4), (0, 4), (4, 0)]), vec![0, 1, 6], 19),
     ]
+}
+
+/// Three rows of four nodes, all of them open.
+pub fn plates_in_place() -> Job {
+    job(grid(12, 4), &[(0, 3), (3, 0), (9, 11)])
+}
+
+/// The same with three closed nodes: one way is left between 0 and 3, around
+/// by the third row, and it is 7 lanes long in the place of 3.
+pub fn plates_taken_up() -> Job {
+    let mut job = plates_in_place();
+    job.hall.closed = vec![1, 5, 7];
+    job
 }

@@ -7,7 +7,7 @@ use crate::job::{refuse, Hall, Job, Move, Refusal};
 use crate::network::Network;
 use crate::rule::Distances;
 
-/// The house path with a network and a move: refusals 2, 3, 4, 5 and 8.
+/// The house path with a network and a move: refusals 2, 3, 12, 4, 5, 13, 8.
 pub fn house_path_of_move(hall: &Hall, asked: Move) -> Result<Vec<u16>, Refusal> {
     hall.check_with_move(asked)?;
     let network = Network::of(hall);
@@ -29,8 +29,9 @@ pub fn house_path_of_move(hall: &Hall, asked: Move) -> Result<Vec<u16>, Refusal>
     Ok(path)
 }
 
-/// The question about one list with a network and a move: refusals 2, 3, 4,
-/// 5, 8 and 11.
+/// The question about one list with a network and a move: refusals 2, 3, 12, 4,
+/// 5, 13, 8 and 11. A list that stands on a closed node fails at the lanes to
+/// it, which join nothing.
 pub fn judge_for_move(hall: &Hall, asked: Move, list: &[u16]) -> Result<(), Refusal> {
     hall.check_with_move(asked)?;
     let network = Network::of(hall);

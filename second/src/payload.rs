@@ -34,6 +34,7 @@ pub fn put_hall(out: &mut Vec<u8>, hall: &Hall) {
     put_long(out, hall.nodes as usize);
     put_long(out, hall.lane_numbers.len());
     put_shorts(out, &hall.lane_numbers);
+    put_list(out, &hall.closed);
 }
 
 pub fn put_recorded(out: &mut Vec<u8>, job: &Recorded) {
@@ -75,6 +76,15 @@ impl<'a> Rest<'a> {
         Ok(bytes.chunks_exact(2).map(|two| u16::from_le_bytes([two[0], two[1]])).collect())
     }
 
+    /// The lengths of so many lent tables.
+    pub fn lengths<const TABLES: usize>(&mut self) -> Result<[u16; TABLES], String> {
+        let mut lengths = [0; TABLES];
+        for length in lengths.iter_mut() {
+            *length = self.short()?;
+        }
+        Ok(lengths)
+    }
+
     pub fn one_move(&mut self) -> Result<Move, String> {
         Ok(Move { start: self.short()?, goal: self.short()? })
     }
@@ -87,7 +97,8 @@ impl<'a> Rest<'a> {
     pub fn hall(&mut self) -> Result<Hall, String> {
         let nodes = self.long()?;
         let count = self.long()?;
-        Ok(Hall { nodes, lane_numbers: self.shorts(count as usize)? })
+        let lane_numbers = self.shorts(count as usize)?;
+        Ok(Hall { nodes, lane_numbers, closed: self.list()? })
     }
 
     pub fn job(&mut self) -> Result<Job, String> {

@@ -23,7 +23,7 @@ impl Plan {
     }
 }
 
-/// The plan of a job from numbers, or refusal 2 to 5, 7 or 8 with its place.
+/// The plan of a job from numbers, or its first refusal with the place.
 pub fn plan(job: &Job) -> Result<Plan, Refusal> {
     job.check()?;
     let distances = Distances::of(job);

@@ -1,16 +1,22 @@
 // Texts for the program itself, of all lengths up to the longest that can be
-// accepted and beyond. The bound of 42,000 bytes is met by no text: the
-// longest accepted one has 38,005. Of each length there is a sound text, one
-// that lacks its last byte, one with a byte more, and one with a fault in its
-// last line, so that a program that reads less than it must is found out.
+// accepted and beyond. The bound of 47,132 bytes is met by no text: the
+// longest accepted one has 42,017, and 38,005 if no node is closed. Of each
+// length there is a sound text, one that lacks its last byte, one with a byte
+// more, and one with a fault in its last line, so that a program that reads
+// less than it must is found out.
 
+use crate::closing::free_nodes;
 use crate::halls::hall_of;
 use crate::job::{Hall, Job, Move};
 use crate::text;
+use crate::write::LEAST_TEXT;
 
 /// Lengths that a sound text comes close to from above.
 const ABOUT: [usize; 14] =
     [300, 600, 1000, 2000, 3000, 4000, 4200, 6000, 8000, 12_000, 16_000, 20_000, 24_000, 32_000];
+
+/// The bytes that the program reads at most: one more than the bound.
+const READ: usize = LEAST_TEXT + 1;
 
 fn job_over(hall: Hall, moves: Vec<Move>) -> Job {
     let order = (0..moves.len() as u16).rev().collect();
@@ -44,10 +50,11 @@ fn sound_of(bytes: usize) -> Vec<u8> {
     }
 }
 
-/// The job with the longest text that is accepted: as many lanes as there may be between
-/// nodes of four digits, the others from three digits to four, 64 moves between
-/// nodes of four digits, which share their ends, and 64 places.
-pub fn longest_job() -> Job {
+/// The job with the longest text that is accepted if no node is closed: as many
+/// lanes as there may be between nodes of four digits, the others from three
+/// digits to four, 64 moves between nodes of four digits, which share their
+/// ends, and 64 places.
+fn longest_open_job() -> Job {
     let high = (1000..1024).flat_map(|lower| (lower + 1..1024).map(move |higher| (lower, higher)));
     let low = (100..1000).flat_map(|lower| (1000..1024).map(move |higher| (lower, higher)));
     let lanes: Vec<(usize, usize)> = high.chain(low).take(4096).collect();
@@ -57,8 +64,25 @@ pub fn longest_job() -> Job {
     job_over(hall_of(1024, lanes), (0..64).map(one).collect())
 }
 
-fn longest() -> Vec<u8> {
-    text::write(&longest_job())
+/// The job with the longest text of all. A closed node is no end, so two nodes
+/// of four digits stay open, all moves join these, and all others are closed.
+pub fn longest_job() -> Job {
+    let mut job = longest_open_job();
+    let one = |carrier: u16| match carrier % 2 {
+        0 => Move { start: 1022, goal: 1023 },
+        _ => Move { start: 1023, goal: 1022 },
+    };
+    job.moves = (0..64).map(one).collect();
+    job.hall.closed = free_nodes(&job);
+    job
+}
+
+/// A line of so many nodes of which only the first two are open.
+fn mostly_closed(nodes: usize) -> Job {
+    let lanes = (1..nodes).map(|node| (node - 1, node)).collect();
+    let mut job = job_over(hall_of(nodes, lanes), vec![Move { start: 0, goal: 1 }; 3]);
+    job.hall.closed = free_nodes(&job);
+    job
 }
 
 /// A sound text and the same with its end spoiled.
@@ -71,10 +95,10 @@ fn with_spoiled_ends(sound: Vec<u8>) -> Vec<Vec<u8>> {
     vec![[&sound[..], b"\n"].concat(), cut, last_line, sound]
 }
 
-/// Texts longer than 42,001 bytes, with the fault that decides before that
-/// byte or in a line that ends behind it.
+/// Texts as long as the bound and longer, with the fault that decides before
+/// the last byte that is read or in a line that ends behind it.
 fn beyond() -> Vec<Vec<u8>> {
-    let full = longest();
+    let full = text::write(&longest_job());
     let fill = |byte: u8, count: usize| vec![byte; count];
     let early: Vec<u8> = {
         let mut spoiled = full.clone();
@@ -82,17 +106,27 @@ fn beyond() -> Vec<Vec<u8>> {
         spoiled
     };
     let to = |text: &[u8], bytes: usize| fill(b'7', bytes - text.len());
+    // The last line goes on, and its line feed is the last byte.
+    let stretched = |bytes: usize| {
+        let cut = &full[..full.len() - 1];
+        [cut, &fill(b' ', bytes - full.len()), b"\n"].concat()
+    };
     vec![
-        [&full[..], &to(&full, 42_000)].concat(),
-        [&full[..], &to(&full, 42_001)].concat(),
-        [&full[..], &to(&full, 42_002)].concat(),
+        [&full[..], &to(&full, READ - 1)].concat(),
+        [&full[..], &to(&full, READ)].concat(),
+        [&full[..], &to(&full, READ + 1)].concat(),
+        stretched(READ - 1),
+        stretched(READ),
+        stretched(READ + 1),
         [&full[..], &to(&full, 60_000), b"\n"].concat(),
         [&full[..], &fill(b'\n', 30_000)].concat(),
         [&full[..], &full[..]].concat(),
         [&early[..], &fill(b'\n', 30_000)].concat(),
-        [&full[..full.len() - 1], &fill(b' ', 10_000), b"\n"].concat(),
+        stretched(52_000),
         [&full[..full.len() - 1], &fill(b'0', 10_000), b"\n"].concat(),
         [b"NODES 1024\nLANES 4096\n", &b"0 1\n".repeat(12_000)[..]].concat(),
+        [b"NODES 1024\nLANES 0\nCLOSED 1024\n", &b"0\n".repeat(25_000)[..]].concat(),
+        [b"NODES 1024\nLANES 0\nCLOSED 1024\n0", &fill(b'0', 50_000)[..], b"\n"].concat(),
         b"9".repeat(100_000),
     ]
 }
@@ -102,7 +136,11 @@ pub fn texts() -> Vec<Vec<u8>> {
     for bytes in ABOUT {
         texts.extend(with_spoiled_ends(sound_of(bytes)));
     }
-    texts.extend(with_spoiled_ends(longest()));
+    for nodes in [10, 100, 500, 1024] {
+        texts.extend(with_spoiled_ends(text::write(&mostly_closed(nodes))));
+    }
+    texts.extend(with_spoiled_ends(text::write(&longest_open_job())));
+    texts.extend(with_spoiled_ends(text::write(&longest_job())));
     texts.extend(beyond());
     texts
 }

@@ -3,11 +3,13 @@
 // Every choice of shortest paths of each pair of carriers is tried; where a
 // pair has too many, it counts as skipped and is judged from distances alone.
 // Forbidden differences are worked out as stretches here, not tick by tick.
-// What holds of carriers that share an end is checked in halls of any size.
+// No path may stand on a closed node. What holds of carriers that share an end
+// is checked in halls of any size.
 
 use crate::answers::answer_to_text;
 use crate::batch::Case;
 use crate::job::Job;
+use crate::safe_print::{check_print, read_print, Printed};
 use crate::shortest::{
     all_distances, all_paths, count_paths, crosses, meets, some_choice_collides, AllDistances,
     Timed,
@@ -26,6 +28,8 @@ pub struct Tally {
     /// Pairs with one start or one goal, and jobs of one start alone.
     sharing: u64,
     rows: u64,
+    /// Jobs with closed nodes among those whose paths are tried.
+    closed: u64,
     /// Jobs in larger halls, of which only shared ends are checked.
     large: u64,
     tried: u64,
@@ -36,9 +40,11 @@ pub struct Tally {
 impl Tally {
     pub fn printed(&self) -> String {
         format!(
-            "safe: {} jobs, {} pairs of carriers, {} path pairs tried, {} skipped; in {} larger \
-             jobs shared ends alone; {} pairs share an end, {} jobs have one start; {} faults\n",
+            "safe: {} jobs, {} of them with closed nodes, {} pairs of carriers, {} path pairs \
+             tried, {} skipped; in {} larger jobs shared ends alone; {} pairs share an end, {} \
+             jobs have one start; {} faults\n",
             self.jobs,
+            self.closed,
             self.pairs,
             self.tried,
             self.skipped,
@@ -53,33 +59,6 @@ impl Tally {
         self.faults += 1;
         eprintln!("case {}: {}", case, what);
     }
-}
-
-/// A printed plan: start tick, distance and goal tick by carrier, and cost.
-struct Printed {
-    records: Vec<[i64; 3]>,
-    cost: i64,
-}
-
-/// Reads a printed plan back; `None` if it has not the printed form.
-fn read_print(print: &str) -> Option<Printed> {
-    let lines: Vec<&str> = print.lines().collect();
-    let carriers: usize = lines.first()?.strip_prefix("PLAN ")?.parse().ok()?;
-    if lines.len() != carriers + 2 {
-        return None;
-    }
-    let mut records = Vec::new();
-    for (carrier, line) in lines[1..=carriers].iter().enumerate() {
-        let numbers: Option<Vec<i64>> = line.split(' ').map(|word| word.parse().ok()).collect();
-        match numbers?[..] {
-            [number, tick, distance, goal_tick] if number == carrier as i64 => {
-                records.push([tick, distance, goal_tick]);
-            }
-            _ => return None,
-        }
-    }
-    let cost = lines[carriers + 1].strip_prefix("COST ")?.parse().ok()?;
-    Some(Printed { records, cost })
 }
 
 /// The lowest and the highest forbidden difference of two carriers, if any is
@@ -131,22 +110,6 @@ fn check_shared_ends(tally: &mut Tally, printed: &Printed, job: &Job) -> Result<
         if printed.records[usize::from(carrier)][0] != place as i64 {
             return Err("of carriers with one start one does not go at the tick of its place");
         }
-    }
-    Ok(())
-}
-
-/// The printed numbers agree with the distances and with each other.
-fn check_print(printed: &Printed, table: &AllDistances, job: &Job) -> Result<(), &'static str> {
-    for (asked, [tick, distance, goal_tick]) in job.moves.iter().zip(&printed.records) {
-        if table[usize::from(asked.start)][usize::from(asked.goal)] != Some(*distance) {
-            return Err("a printed distance is not the distance");
-        }
-        if tick + distance != *goal_tick {
-            return Err("a goal tick is not tick plus distance");
-        }
-    }
-    if printed.records.iter().map(|record| record[2]).sum::<i64>() != printed.cost {
-        return Err("the cost is not the sum of the goal ticks");
     }
     Ok(())
 }
@@ -204,6 +167,10 @@ fn check_paths(tally: &mut Tally, case: usize, printed: &Printed, table: &AllDis
             _ => Vec::new(),
         })
         .collect();
+    let is_closed = |&node: &usize| job.hall.closed.contains(&(node as u16));
+    if paths.iter().flatten().flatten().any(is_closed) {
+        tally.fault(case, "a shortest path stands on a closed node");
+    }
     for second in 0..job.moves.len() {
         for first in 0..second {
             let (tick, other_tick) = (printed.records[first][0], printed.records[second][0]);
@@ -245,6 +212,7 @@ fn check_text(tally: &mut Tally, number: usize, source: &[u8]) {
         return;
     }
     tally.jobs += 1;
+    tally.closed += u64::from(!job.hall.closed.is_empty());
     let table = all_distances(&job.hall);
     let checked =
         check_print(&printed, &table, &job).and_then(|()| check_ticks(&printed, &table, &job));

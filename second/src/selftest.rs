@@ -10,6 +10,7 @@ use crate::mistakes;
 use crate::page;
 use crate::plan::plan;
 use crate::rule::Pair;
+use crate::selftest_closed;
 use crate::selftest_lent;
 use crate::selftest_refusals;
 use crate::selftest_shared;
@@ -130,6 +131,7 @@ pub fn run() -> (String, bool) {
     selftest_lent::run(&mut checks);
     selftest_shared::run(&mut checks);
     selftest_write::run(&mut checks);
+    selftest_closed::run(&mut checks);
     let mut report = checks.failures.join("\n");
     if !report.is_empty() {
         report.push('\n');

@@ -3,6 +3,8 @@
 
 use crate::job::Move;
 use crate::lent::{self, Record, MARK};
+use crate::lent_plan;
+use crate::lent_read;
 use crate::page;
 use crate::selftest::Checks;
 use crate::systematic::PRINTED_JOB;
@@ -16,24 +18,32 @@ fn printed_records() -> Vec<Record> {
 
 fn reading(checks: &mut Checks) {
     let text = PRINTED_JOB.as_bytes();
-    let accepted = "READ 5 4 3\nlanes 1x0 2x1 2x2 2x3 1x4 8184x0 108x7777\n\
-        starts 1x0 1x4 1x2 61x0 16x7777\ngoals 1x4 1x0 1x1 61x0 16x7777\n\
-        distances 64x0 16x7777\nticks 64x0 16x7777\norder 1x0 1x1 1x2 61x0 36x7777\n";
-    checks.same("read", lent::read_to_records(8192, 64, 64, text).printed().as_str(), accepted);
-    checks.same(
-        "read, longer",
-        lent::read_to_records(8300, 80, 100, text).printed().as_str(),
-        accepted,
-    );
-    let short = format!("REFUSED 9 0\nlanes 8300x7777\n{}order 100x7777\n", ALL_MARKED);
-    for (lanes, records, order) in [(8191, 64, 64), (8192, 63, 64), (8192, 64, 63)] {
-        let found = lent::read_to_records(lanes, records, order, text).printed();
+    let accepted = "READ 5 4 0 3\nlanes 1x0 2x1 2x2 2x3 1x4 8184x0 108x7777\n\
+        closed 1024x0 76x7777\nstarts 1x0 1x4 1x2 61x0 16x7777\n\
+        goals 1x4 1x0 1x1 61x0 16x7777\ndistances 64x0 16x7777\nticks 64x0 16x7777\n\
+        order 1x0 1x1 1x2 61x0 36x7777\n";
+    for lent in [[8192, 1024, 64, 64], [8300, 1100, 80, 100]] {
+        checks.same("read", lent_read::to_records(lent, text).printed().as_str(), accepted);
+    }
+    let short =
+        format!("REFUSED 9 0\nlanes 8300x7777\nclosed 1100x7777\n{}order 100x7777\n", ALL_MARKED);
+    for lent in
+        [[8191, 1024, 64, 64], [8192, 1023, 64, 64], [8192, 1024, 63, 64], [8192, 1024, 64, 63]]
+    {
+        let found = lent_read::to_records(lent, text).printed();
         checks.same("read, short", &found, &short);
     }
-    let refused = "REFUSED 2 11\nlanes 8192x0 108x7777\nmoves 128x0 72x7777\norder 64x0 36x7777\n";
+    let refused = "REFUSED 2 11\nlanes 8192x0 108x7777\nclosed 1024x0 76x7777\n\
+        moves 128x0 72x7777\norder 64x0 36x7777\n";
     let spoiled = PRINTED_JOB.replace("ORDER 3", "ORDER 2");
-    let found = lent::read_to_moves(8192, 128, 64, spoiled.as_bytes()).printed();
+    let found = lent_read::to_moves([8192, 1024, 128, 64], spoiled.as_bytes()).printed();
     checks.same("read, refused", found.as_str(), refused);
+    let closed = PRINTED_JOB.replace("NODES 5", "NODES 9").replace("CARR", "CLOSED 2\n5\n7\nCARR");
+    let found = lent_read::to_moves([8300, 1100, 200, 100], closed.as_bytes()).printed();
+    let accepted = "READ 9 4 2 3\nlanes 1x0 2x1 2x2 2x3 1x4 8184x0 108x7777\n\
+        closed 1x5 1x7 1022x0 76x7777\nmoves 1x0 2x4 1x0 1x2 1x1 122x0 72x7777\n\
+        order 1x0 1x1 1x2 61x0 36x7777\n";
+    checks.same("read, closed nodes", found.as_str(), accepted);
 }
 
 fn planning(checks: &mut Checks) {
@@ -44,16 +54,16 @@ fn planning(checks: &mut Checks) {
         1x4 1x3 61x0 1x4 1x0 1x1 61x0 1x3 1x1 3966x0 112x7777\n";
     let moves = "starts 1x0 1x4 1x2 77x7777\ngoals 1x4 1x0 1x1 77x7777\n";
     let times = "distances 2x4 1x1 77x7777\nticks 1x0 1x5 1x3 77x7777\n";
-    let found = lent::plan_records(12_288, &job.hall, &records, &job.order).printed();
+    let found = lent_plan::records(12_288, &job.hall, &records, &job.order).printed();
     checks.same("plan", found, format!("COST 17\n{}{}{}", table, moves, times));
     let as_they_came = "distances 80x7777\nticks 80x7777\n";
-    let found = lent::plan_records(12_287, &job.hall, &records, &job.order).printed();
+    let found = lent_plan::records(12_287, &job.hall, &records, &job.order).printed();
     let short = format!("REFUSED 9 0\ntable 12400x7777\n{}{}", moves, as_they_came);
     checks.same("plan, short", found, short);
-    let found = lent::plan_records(12_300, &job.hall, &records, &[0, 1, 1]).printed();
+    let found = lent_plan::records(12_300, &job.hall, &records, &[0, 1, 1]).printed();
     let refused = format!("REFUSED 7 2\ntable 12288x0 112x7777\n{}{}", moves, as_they_came);
     checks.same("plan, refused", found, refused);
-    let found = lent::plan_lists([12_288, 64, 64], &job.hall, &[0, 4, 4, 0, 2, 1, 9], &job.order);
+    let found = lent_plan::lists([12_288, 64, 64], &job.hall, &[0, 4, 4, 0, 2, 1, 9], &job.order);
     let lists = "distances 2x4 1x1 61x0 36x7777\nticks 1x0 1x5 1x3 61x0 36x7777\n";
     checks.same("plan, lists", found.printed(), format!("COST 17\n{}{}", table, lists));
 }

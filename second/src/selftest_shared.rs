@@ -83,7 +83,7 @@ fn latest_ticks(checks: &mut Checks) {
 
 /// Of random cases, sound and damaged, each number but 6 refuses some.
 fn six_is_not_in_use(checks: &mut Checks) {
-    let mut refused = [0; 12];
+    let mut refused = [0; 14];
     for case in random_cases(&mut Dice::new(6), 3000) {
         for refusal in answers_to(&case).iter().filter_map(|answer| answer.refusal()) {
             refused[usize::from(refusal.number)] += 1;

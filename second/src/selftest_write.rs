@@ -25,34 +25,34 @@ fn text_of(job: &Job) -> Result<Vec<u8>, Refusal> {
     Ok(bytes)
 }
 
-/// Page 01's job, and what behind its 69 bytes is left in 42,100 lent ones.
+/// Page 01's job, and what behind its 69 bytes is left in 47,232 lent ones.
 fn from_numbers(checks: &mut Checks) {
     let job = page::printed_job();
-    let accepted = format!("BYTES 69\n{}out 41931x0 100x77\n", PRINTED_JOB);
+    let accepted = format!("BYTES 69\n{}out 47063x0 100x77\n", PRINTED_JOB);
     let moves = moves_of(&job);
-    for out in [42_000, 42_001, 42_100] {
+    for out in [47_132, 47_133, 47_232] {
         let found = lent_write::numbers(out, &job.hall, &moves, &job.order).printed();
         checks.same("written", &found, &accepted);
     }
     for odd in [0, 4, 65_535] {
         let moves = [&moves[..], &[odd]].concat();
-        let found = lent_write::numbers(42_000, &job.hall, &moves, &job.order).printed();
+        let found = lent_write::numbers(47_132, &job.hall, &moves, &job.order).printed();
         checks.same("written, odd moves", &found, &accepted);
     }
-    for out in [0, 1, 69, 41_999] {
+    for out in [0, 1, 69, 42_000, 47_131] {
         let found = lent_write::numbers(out, &job.hall, &moves, &[7]).printed();
-        checks.same("written, too few", found.as_str(), "REFUSED 9 0\nout 42100x77\n");
+        checks.same("written, too few", found.as_str(), "REFUSED 9 0\nout 47232x77\n");
     }
     let mut odd = job.hall.clone();
     odd.lane_numbers.push(4);
-    let found = lent_write::numbers(42_100, &odd, &moves, &job.order).printed();
-    checks.same("written, odd lanes", found.as_str(), "REFUSED 2 1\nout 42000x0 100x77\n");
-    let found = lent_write::numbers(42_000, &job.hall, &moves, &[0, 1, 1]).printed();
-    checks.same("written, refused", found.as_str(), "REFUSED 7 2\nout 42000x0 100x77\n");
+    let found = lent_write::numbers(47_232, &odd, &moves, &job.order).printed();
+    checks.same("written, odd lanes", found.as_str(), "REFUSED 2 1\nout 47132x0 100x77\n");
+    let found = lent_write::numbers(47_132, &job.hall, &moves, &[0, 1, 1]).printed();
+    checks.same("written, refused", found.as_str(), "REFUSED 7 2\nout 47132x0 100x77\n");
     let lost = page::goal_out_of_reach();
-    let found = lent_write::numbers(42_000, &lost.hall, &moves_of(&lost), &lost.order).printed();
+    let found = lent_write::numbers(47_132, &lost.hall, &moves_of(&lost), &lost.order).printed();
     let text = "NODES 3\nLANES 1\n0 1\nCARRIERS 1\n0 2\nORDER 1\n0\n";
-    let wanted = format!("BYTES 45\n{}out 41955x0 100x77\n", text);
+    let wanted = format!("BYTES 45\n{}out 47087x0 100x77\n", text);
     checks.same("written without a walk", found, wanted);
 }
 
@@ -63,9 +63,9 @@ fn from_records(checks: &mut Checks) {
     let unchanged = "starts 1x0 1x4 1x2 77x7777\ngoals 1x4 1x0 1x1 77x7777\n\
         distances 3x9 77x7777\nticks 3x65536 77x7777\n";
     for (out, order, wanted) in [
-        (42_000, [2, 1, 0], "out 41931x0 100x77"),
-        (42_000, [2, 1, 3], "REFUSED 7 2\nout 42000x0 100x77"),
-        (41_999, [2, 1, 3], "REFUSED 9 0\nout 42100x77"),
+        (47_132, [2, 1, 0], "out 47063x0 100x77"),
+        (47_132, [2, 1, 3], "REFUSED 7 2\nout 47132x0 100x77"),
+        (47_131, [2, 1, 3], "REFUSED 9 0\nout 47232x77"),
     ] {
         let found = lent_write::records(out, &job.hall, &records, &order).printed();
         let text = PRINTED_JOB.replace("0\n1\n2\n", "2\n1\n0\n");
@@ -120,7 +120,7 @@ fn round_trips(checks: &mut Checks) {
         text_of(&page::job(page::hall(nodes, &[]), &[])) == Ok(text.into_bytes())
     };
     checks.same("every count of nodes", (1..=1024).filter(|&nodes| counted(nodes)).count(), 1024);
-    checks.same("the longest text", text_of(&longest_job()).map(|text| text.len()), Ok(38_005));
+    checks.same("the longest text", text_of(&longest_job()).map(|text| text.len()), Ok(42_017));
 }
 
 /// The kind that reads a text and writes it again.

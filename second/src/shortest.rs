@@ -1,6 +1,7 @@
 // Every shortest path of a move, and whether two timed paths meet or cross.
 // Distances come from Floyd and Warshall's triple loop, not from the level
 // sets that the planner uses, so that a slip in one does not excuse the other.
+// A closed node is at no distance from any node, so no path goes over it.
 // It is meant for small halls; callers count paths before they ask for them.
 
 use crate::job::{Hall, Move};
@@ -10,11 +11,15 @@ pub type AllDistances = Vec<Vec<Option<i64>>>;
 
 pub fn all_distances(hall: &Hall) -> AllDistances {
     let nodes = hall.nodes as usize;
+    let is_open = |node: u16| !hall.closed.contains(&node);
     let mut table: AllDistances = vec![vec![None; nodes]; nodes];
-    for node in 0..nodes {
+    for node in (0..nodes).filter(|&node| is_open(node as u16)) {
         table[node][node] = Some(0);
     }
     for (first, second) in hall.lanes() {
+        if !is_open(first) || !is_open(second) {
+            continue;
+        }
         table[usize::from(first)][usize::from(second)] = Some(1);
         table[usize::from(second)][usize::from(first)] = Some(1);
     }

@@ -1,7 +1,7 @@
 // All networks of one to four nodes, every subset of the possible lanes, each
 // with every pair of starts and goals in order 0, 1: 17,065 texts. Pairs that
 // share a start, a goal or both are among them, and so are those that are
-// refused, so nothing at this size is left to chance.
+// refused, so nothing at this size is left to chance. All nodes are open here.
 // Then every three moves of which two share an end, in all networks of two or
 // three nodes and in the six shapes of four joined nodes: 10,432 texts.
 // Likewise every move with every list of up to three nodes in networks of up
@@ -12,7 +12,7 @@ use crate::halls::{complete, hall_of, line, ring, star};
 use crate::job::{Hall, Job, Move};
 use crate::text;
 
-fn all_small_halls() -> Vec<Hall> {
+pub fn all_small_halls() -> Vec<Hall> {
     let mut halls = Vec::new();
     for nodes in 1..=4 {
         let lanes: Vec<(usize, usize)> = (0..nodes)
@@ -29,7 +29,7 @@ fn all_small_halls() -> Vec<Hall> {
 }
 
 /// Every list of `length` nodes out of the first `nodes`.
-fn all_lists(nodes: u16, length: usize) -> Vec<Vec<u16>> {
+pub fn all_lists(nodes: u16, length: usize) -> Vec<Vec<u16>> {
     let mut lists = vec![Vec::new()];
     for _ in 0..length {
         lists = (lists.iter())

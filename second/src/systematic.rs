@@ -5,11 +5,13 @@
 // entry, where the form must come first.
 
 use crate::batch::Case;
-use crate::damage_entries::{Draft, ENTRY_DAMAGES};
+use crate::damage_entries::ENTRY_DAMAGES;
 use crate::damage_form::FORM_DAMAGES;
 use crate::dice::Dice;
+use crate::draft::Draft;
 use crate::page;
 use crate::text;
+use std::ops::Range;
 
 pub const PRINTED_JOB: &str = "NODES 5\nLANES 4\n0 1\n1 2\n2 3\n3 4\n\
     CARRIERS 3\n0 4\n4 0\n2 1\nORDER 3\n0\n1\n2\n";
@@ -18,15 +20,24 @@ pub const PRINTED_JOB: &str = "NODES 5\nLANES 4\n0 1\n1 2\n2 3\n3 4\n\
 /// other four kinds.
 const BYTES: &[u8] = b"0179/: \nANa\r\0\xff";
 
-pub fn spoiled_bytes(sound: &[u8]) -> Vec<Vec<u8>> {
-    let mut texts: Vec<Vec<u8>> = (0..=sound.len()).map(|end| sound[..end].to_vec()).collect();
-    for at in 0..sound.len() {
+/// Cut off in front of each byte of a part of a text, and each fault that a
+/// byte of that part can have.
+pub fn spoiled_bytes_in(sound: &[u8], part: Range<usize>) -> Vec<Vec<u8>> {
+    let mut texts: Vec<Vec<u8>> = part.clone().map(|end| sound[..end].to_vec()).collect();
+    for at in part {
         texts.push([&sound[..at], &sound[at + 1..]].concat());
         for &byte in BYTES {
             texts.push([&sound[..at], &[byte], &sound[at + 1..]].concat());
             texts.push([&sound[..at], &[byte], &sound[at..]].concat());
         }
     }
+    texts
+}
+
+/// The same for a whole text, then the text as it is and with a byte more.
+pub fn spoiled_bytes(sound: &[u8]) -> Vec<Vec<u8>> {
+    let mut texts = spoiled_bytes_in(sound, 0..sound.len());
+    texts.push(sound.to_vec());
     for &byte in BYTES {
         texts.push([sound, &[byte]].concat());
     }

@@ -3,11 +3,14 @@
 // a missing line and a last line that is cut off refuse alike, with 1.
 // Fields are what single spaces separate: two spaces in a row, or one at
 // either end, make an empty field, and an empty field is no number.
+// The section of closed nodes may be absent: the line behind the lanes opens
+// it or, if it does not, the carriers.
 // The last functions write a job's text, for the generator.
 
 use crate::job::{
-    lane_is_faulty, move_fault, nodes_are_out_of_range, order_entry_is_faulty, refuse, Hall, Job,
-    Move, Refusal, MOST_CARRIERS, MOST_LANES,
+    closed_entry_is_faulty, lane_is_faulty, move_fault, nodes_are_out_of_range,
+    order_entry_is_faulty, refuse, Hall, Job, Move, Refusal, MOST_CARRIERS, MOST_CLOSED,
+    MOST_LANES,
 };
 
 struct Lines<'a> {
@@ -46,15 +49,22 @@ impl<'a> Lines<'a> {
         }
     }
 
-    /// The count on the next line, which opens a section.
-    fn count(&mut self, heading: &str) -> Result<u16, Refusal> {
+    /// The word and the count on the next line, which opens a section with one
+    /// of these words.
+    fn heading(&mut self, words: &[&'static str]) -> Result<(&'static str, u16), Refusal> {
         let fields = self.fields()?;
-        if fields.len() == 2 && fields[0] == heading.as_bytes() {
-            if let Some(count) = number_in(fields[1]) {
-                return Ok(count);
-            }
+        let found = words.iter().find(|word| fields[0] == word.as_bytes());
+        match (found, &fields[1..]) {
+            (Some(word), [field]) => match number_in(field) {
+                Some(count) => Ok((word, count)),
+                None => self.refuse(1),
+            },
+            _ => self.refuse(1),
         }
-        self.refuse(1)
+    }
+
+    fn count(&mut self, word: &'static str) -> Result<u16, Refusal> {
+        self.heading(&[word]).map(|(_, count)| count)
     }
 
     /// The numbers on the next line, exactly as many as the caller expects.
@@ -73,6 +83,7 @@ impl<'a> Lines<'a> {
         Ok(numbers)
     }
 
+    /// The node count and the lanes; no node is closed yet.
     fn hall(&mut self) -> Result<Hall, Refusal> {
         let nodes = u32::from(self.count("NODES")?);
         if nodes_are_out_of_range(nodes) {
@@ -92,11 +103,38 @@ impl<'a> Lines<'a> {
             before = Some((first, second));
             lane_numbers.extend([first, second]);
         }
-        Ok(Hall { nodes, lane_numbers })
+        Ok(Hall { nodes, lane_numbers, closed: Vec::new() })
     }
 
-    fn moves(&mut self, nodes: u32) -> Result<Vec<Move>, Refusal> {
-        let carriers = usize::from(self.count("CARRIERS")?);
+    /// The closed nodes, whose count stands on the line read last. A section
+    /// that is there closes some node.
+    fn closed(&mut self, nodes: u32, count: usize) -> Result<Vec<u16>, Refusal> {
+        if count == 0 || count > MOST_CLOSED {
+            return self.refuse(2);
+        }
+        let mut closed: Vec<u16> = Vec::new();
+        for _ in 0..count {
+            let [entry] = self.numbers()?;
+            if closed_entry_is_faulty(nodes, closed.last().copied(), entry) {
+                return self.refuse(12);
+            }
+            closed.push(entry);
+        }
+        Ok(closed)
+    }
+
+    /// The closed nodes, if any, and the count of carriers behind them.
+    fn closed_and_carriers(&mut self, nodes: u32) -> Result<(Vec<u16>, usize), Refusal> {
+        let (word, count) = self.heading(&["CLOSED", "CARRIERS"])?;
+        if word == "CARRIERS" {
+            return Ok((Vec::new(), count.into()));
+        }
+        let closed = self.closed(nodes, count.into())?;
+        Ok((closed, self.count("CARRIERS")?.into()))
+    }
+
+    /// The moves, whose count stands on the line read last.
+    fn moves(&mut self, hall: &Hall, carriers: usize) -> Result<Vec<Move>, Refusal> {
         if carriers > MOST_CARRIERS {
             return self.refuse(2);
         }
@@ -104,7 +142,7 @@ impl<'a> Lines<'a> {
         for _ in 0..carriers {
             let [start, goal] = self.numbers()?;
             let asked = Move { start, goal };
-            if let Some(number) = move_fault(nodes, asked) {
+            if let Some(number) = move_fault(hall.nodes, &hall.closed, asked) {
                 return self.refuse(number);
             }
             moves.push(asked);
@@ -138,20 +176,31 @@ impl<'a> Lines<'a> {
     }
 }
 
-/// The job that a text holds, or refusal 1 to 5 or 7 with its line.
+/// The job that a text holds, or refusal 1 to 5, 7, 12 or 13 with its line.
 pub fn read(text: &[u8]) -> Result<Job, Refusal> {
     let mut lines = Lines { rest: text, number: 0 };
-    let hall = lines.hall()?;
-    let moves = lines.moves(hall.nodes)?;
+    let mut hall = lines.hall()?;
+    let (closed, carriers) = lines.closed_and_carriers(hall.nodes)?;
+    hall.closed = closed;
+    let moves = lines.moves(&hall, carriers)?;
     let order = lines.order(moves.len())?;
     lines.end()?;
     Ok(Job { hall, moves, order })
 }
 
-/// The line of a carrier's move: the headings NODES, LANES and CARRIERS and
-/// all lanes stand before carrier 0, and lines count from 1.
+/// How many lines the section of closed nodes has: none, or its heading and a
+/// line for each.
+pub fn closed_lines(hall: &Hall) -> usize {
+    match hall.closed.len() {
+        0 => 0,
+        count => 1 + count,
+    }
+}
+
+/// The line of a carrier's move: the headings NODES, LANES and CARRIERS, all
+/// lanes and all closed nodes stand before carrier 0, and lines count from 1.
 pub fn line_of_carrier(job: &Job, carrier: usize) -> usize {
-    4 + job.hall.lane_numbers.len() / 2 + carrier
+    4 + job.hall.lane_numbers.len() / 2 + closed_lines(&job.hall) + carrier
 }
 
 /// The text of a job, one entry a line, each line without its line feed.
@@ -159,6 +208,10 @@ pub fn lines_of(job: &Job) -> Vec<Vec<u8>> {
     let mut lines = vec![format!("NODES {}", job.hall.nodes)];
     lines.push(format!("LANES {}", job.hall.lane_numbers.len() / 2));
     lines.extend(job.hall.lanes().iter().map(|(first, second)| format!("{} {}", first, second)));
+    if !job.hall.closed.is_empty() {
+        lines.push(format!("CLOSED {}", job.hall.closed.len()));
+        lines.extend(job.hall.closed.iter().map(|node| node.to_string()));
+    }
     lines.push(format!("CARRIERS {}", job.moves.len()));
     lines.extend(job.moves.iter().map(|asked| format!("{} {}", asked.start, asked.goal)));
     lines.push(format!("ORDER {}", job.order.len()));

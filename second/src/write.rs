@@ -9,7 +9,7 @@ use crate::text;
 
 /// The least length of the bytes that are lent for a text. No accepted job has
 /// a longer one.
-pub const LEAST_TEXT: usize = 42_000;
+pub const LEAST_TEXT: usize = 47_132;
 
 /// Lent bytes, written on from the front.
 struct Sheet<'a> {
@@ -69,6 +69,10 @@ pub fn write(lent: &mut [u8], job: &Job) -> Result<usize, Refusal> {
     sheet.heading("NODES", job.hall.nodes as usize);
     sheet.heading("LANES", job.hall.lane_numbers.len() / 2);
     job.hall.lane_numbers.chunks(2).for_each(|lane| sheet.pair(lane[0], lane[1]));
+    if !job.hall.closed.is_empty() {
+        sheet.heading("CLOSED", job.hall.closed.len());
+        job.hall.closed.iter().for_each(|&node| sheet.single(node));
+    }
     sheet.heading("CARRIERS", job.moves.len());
     job.moves.iter().for_each(|asked| sheet.pair(asked.start, asked.goal));
     sheet.heading("ORDER", job.order.len());
@@ -78,7 +82,7 @@ pub fn write(lent: &mut [u8], job: &Job) -> Result<usize, Refusal> {
 
 /// How much a job holds, to be added up over many readings.
 fn size(job: &Job) -> usize {
-    job.hall.lane_numbers.len() + job.moves.len() + job.order.len()
+    job.hall.lane_numbers.len() + job.hall.closed.len() + job.moves.len() + job.order.len()
 }
 
 /// The text of the job that a text holds. The text is read once and `readings`

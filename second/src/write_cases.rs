@@ -5,23 +5,24 @@
 use crate::batch::Case;
 use crate::damage_numbers::damaged_job;
 use crate::dice::Dice;
+use crate::faults::faulty_jobs;
 use crate::generate::{noise, one_damage, several_damages, two_in_one_line};
 use crate::job::{Job, MOST_NODES};
-use crate::lent_cases::texts;
+use crate::lent_texts::texts;
 use crate::lent_write::TEXT_PLACES;
 use crate::limits::full_jobs;
 use crate::page;
 use crate::program_texts;
 use crate::systematic::{spoiled_bytes, PRINTED_JOB};
 use crate::write::LEAST_TEXT;
-use crate::write_faults::{fault_cases, faulty_jobs};
+use crate::write_faults::fault_cases;
 use crate::write_jobs::{
     as_numbers, as_odd_numbers, as_records, as_text, enough, sound_job, sound_jobs,
 };
 
 /// Lengths of the lent bytes: at the ends of what there is, on both sides of
 /// the least length, and some between.
-const LENGTHS: [usize; 14] = [
+const LENGTHS: [usize; 15] = [
     0,
     1,
     2,
@@ -29,7 +30,8 @@ const LENGTHS: [usize; 14] = [
     100,
     2048,
     20_000,
-    38_005,
+    42_000,
+    42_017,
     LEAST_TEXT - 2,
     LEAST_TEXT - 1,
     LEAST_TEXT,
@@ -93,6 +95,7 @@ fn full_cases(dice: &mut Dice) -> Vec<Case> {
 fn length_cases(dice: &mut Dice) -> Vec<Case> {
     let mut jobs = vec![
         page::printed_job(),
+        page::plates_taken_up(),
         page::goal_out_of_reach(),
         page::job(page::hall(1, &[]), &[]),
         program_texts::longest_job(),

@@ -1,9 +1,11 @@
 // Jobs to be written, and the three ways to put one into a case: as a text,
 // from numbers and from records. The sound jobs have numbers of one to four
 // digits in every field. Whether walks join the ends plays no part in writing,
-// so many of these jobs have carriers without a walk.
+// so many of these jobs have carriers without a walk. About a third of the
+// random ones have closed nodes.
 
 use crate::batch::{Case, Recorded};
+use crate::closing::close_free_at_times;
 use crate::dice::Dice;
 use crate::halls::{ample_job, any_job, hall_of, line, parted_job, two_parts};
 use crate::job::{Job, Move, MOST_CARRIERS, MOST_LANES};
@@ -88,7 +90,9 @@ fn loose_job(dice: &mut Dice) -> Job {
     let moves: Vec<Move> = (0..carriers).map(one_move).collect();
     let mut order: Vec<u16> = (0..carriers as u16).collect();
     dice.shuffle(&mut order);
-    Job { hall, moves, order }
+    let mut job = Job { hall, moves, order };
+    close_free_at_times(dice, &mut job);
+    job
 }
 
 /// A random job that can be written: mostly a loose one, at times a hall of
@@ -157,6 +161,25 @@ fn walkless_jobs() -> Vec<Job> {
     ]
 }
 
+/// Closed nodes on both sides of each step to one digit more, one by one and
+/// together, and counts of them on both sides of those steps.
+fn closed_jobs() -> Vec<Job> {
+    let closing = |closed: Vec<u16>, moves: &[(u16, u16)]| {
+        let mut job = page::job(page::hall(1024, &[2, 3]), moves);
+        job.hall.closed = closed;
+        job
+    };
+    let mut jobs: Vec<Job> = EDGES.map(|node| closing(vec![node], &[(2, 3)])).to_vec();
+    jobs.push(closing(EDGES.to_vec(), &[(2, 3), (3, 4)]));
+    for count in [2, 9, 10, 11, 99, 100, 101, 999, 1000, 1001, 1021, 1022] {
+        jobs.push(closing((0..count).collect(), &[(1022, 1023)]));
+        jobs.push(closing((1024 - count..1024).collect(), &[(0, 1), (1, 0)]));
+    }
+    jobs.extend([1023, 1024].map(|count| closing((0..count).collect(), &[])));
+    jobs.extend([page::plates_in_place(), page::plates_taken_up()]);
+    jobs
+}
+
 /// The sound jobs that every batch writes.
 pub fn sound_jobs(dice: &mut Dice) -> Vec<Job> {
     let mut jobs: Vec<Job> = page::cases().into_iter().map(|(_, job, _)| job).collect();
@@ -164,6 +187,7 @@ pub fn sound_jobs(dice: &mut Dice) -> Vec<Job> {
     jobs.extend(edge_jobs());
     jobs.extend(counted_jobs(dice));
     jobs.extend(walkless_jobs());
+    jobs.extend(closed_jobs());
     jobs.push(longest_job());
     jobs
 }

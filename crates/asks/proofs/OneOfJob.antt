@@ -1,6 +1,6 @@
 -- One carrier of a job without faults: its number is below the carriers' count, and its move by itself has no
--- fault either. Counts and lanes are the job's, stage by stage; the move's ends are nodes that differ and
--- that a walk joins, since they are so for every carrier of the job. Assumes nothing.
+-- fault either. Counts, lanes and closed nodes are the job's, stage by stage; the move's ends are open nodes
+-- that differ and that a walk joins, since they are so for every carrier of the job. Assumes nothing.
 use mathlib.Core.List.{[], _∷_}
 use Prim.Native.Nat.{ℕ, suc, _<_}
 use native.Mathlib.Omega.{arith}
@@ -17,8 +17,10 @@ network-sound : (j : Numbers) → None (checksQuestion j) → None (networkQuest
 network-sound j none =
     let nodes = none .in-turn in
     let lanes = nodes .1 in
-    let each-lane = lanes .1 .1 .1 in
-    record { in-turn = (nodes .0, (lanes .0, (each-lane .0, tt))) }
+    let closed = lanes .1 in
+    let each-lane = closed .1 .1 .1 in
+    let each-closed = each-lane .1 in
+    record { in-turn = (nodes .0, (lanes .0, (closed .0, (each-lane .0, (each-closed .0, tt))))) }
 
 module _ (j : Numbers) (c : ℕ) (none : None (askedQuestion j c)) where
   job-sound : None (jobQuestion j)
@@ -35,6 +37,8 @@ module _ (j : Numbers) (c : ℕ) (none : None (askedQuestion j c)) where
       let facts = denied-checks j checked in
       none-append
       (none-append (network-sound j checked)
-      (place-none (ends (j .network) (λ i. start j c) (λ i. goal j c)) 0
-      (facts .off-floor c carrier-there, (facts .same-ends c carrier-there, tt))))
+      (place-none (ends (j .network .nodes) (j .network .closed) (λ i. start j c) (λ i. goal j c)) 0 (
+        facts .off-floor c carrier-there,
+        (facts .same-ends c carrier-there, (facts .closed-end c carrier-there, tt)),
+      )))
       (asked-clear (walks-of-none j job-sound c carrier-there) none-at-all)

@@ -5,8 +5,8 @@
 --     HouseAsked    the answer to the question for the house path of the carrier's move: that path, as
 --                   `House` of the crate `path` has it, or the first fault and what that leaves in the list
 --     ListAsked     the answer to the question about one list
---     Walkable      what the search for 8 starts from: at most 1,024 nodes, and every start and goal among
---                   them
+--     Walkable      what the search for 8 starts from: at most 1,024 nodes, and every start and goal an open
+--                   one of them
 use mathlib.Core.Path.{_≡_}
 use mathlib.Core.List.{List}
 use Prim.Native.Nat.{ℕ, _≤_, _<_}

@@ -22,15 +22,17 @@ ghost use Rattle.hall.specs.Questions.{eachWalk, lacking, askedQuestion};
 ghost use Rattle.asks.specs.Asked.{HouseAsked, ListAsked, Walkable};
 
 // Whether no walk joins start and goal.
-fn cut_off(nodes: usize, lanes: &[u16], start: u16, goal: u16) -> bool
+fn cut_off(nodes: usize, lanes: &[u16], closed: &[u16], start: u16, goal: u16) -> bool
     requires { ⌜
         (nodes ≤ nodeLimit)
         × (start < nodes)
         × (goal < nodes) ⌝ }
-    ensures { λ r. ⌜ Answers r (NoWalk (floor (networkOf nodes (now (lanes .entry)))) start goal) ⌝ }
+    ensures { λ r. ⌜ Answers r (NoWalk
+        (floor (networkOf nodes (now (lanes .entry)) (now (closed .entry))))
+        start goal) ⌝ }
 {
     let mut row: [u16; Job::NODES] = [0; Job::NODES];
-    walk::distances(nodes, lanes, start, &mut row);
+    walk::distances(nodes, lanes, closed, start, &mut row);
     let there = goal as usize;
     let distance = row[there];
     if distance == Job::NO_WALK {
@@ -40,10 +42,10 @@ fn cut_off(nodes: usize, lanes: &[u16], start: u16, goal: u16) -> bool
 }
 
 // 8: the lowest carrier number that no walk takes from its start to its goal.
-fn check_reach(nodes: usize, lanes: &[u16], moves: &[u16]) -> Checked
-    requires { ⌜ Walkable (networkOf nodes (now lanes)) (now moves) ⌝ }
+fn check_reach(nodes: usize, lanes: &[u16], closed: &[u16], moves: &[u16]) -> Checked
+    requires { ⌜ Walkable (networkOf nodes (now lanes) (now closed)) (now moves) ⌝ }
     ensures { λ r. ⌜ Judged
-        (eachWalk (networkOf nodes (now (lanes .entry))) (now (moves .entry)) ∷ [])
+        (eachWalk (networkOf nodes (now (lanes .entry)) (now (closed .entry))) (now (moves .entry)) ∷ [])
         r ⌝ }
 {
     let count = moves.len() / 2;
@@ -52,7 +54,7 @@ fn check_reach(nodes: usize, lanes: &[u16], moves: &[u16]) -> Checked
         let at = 2 * i;
         let start = moves[at];
         let goal = moves[at + 1];
-        if cut_off(nodes, lanes, start, goal) {
+        if cut_off(nodes, lanes, closed, start, goal) {
             return Checked::Refused(Refusal {
                 fault: Fault::Unreachable,
                 place: i,
@@ -77,26 +79,29 @@ fn check_number(carriers: usize, carrier: Carrier) -> Checked
     Checked::Sound
 }
 
-// A job and a carrier number: 2 to 7 of the job, 8 for the lowest carrier number, then 10.
+// A job and a carrier number: the listed checks of the job, 8 for the lowest carrier number, then 10.
 pub fn check_asked(
     nodes: usize,
     lanes: &[u16],
+    closed: &[u16],
     moves: &[u16],
     order: &[u16],
     carrier: Carrier,
 ) -> Checked
     ensures { λ r. ⌜ Judged
         (askedQuestion
-        (jobOf (networkOf nodes (now (lanes .entry))) (now (moves .entry)) (now (order .entry)))
+        (jobOf
+        (networkOf nodes (now (lanes .entry)) (now (closed .entry)))
+        (now (moves .entry)) (now (order .entry)))
         (carrier .0))
         r ⌝ }
 {
-    let job = network::checks::check_job(nodes, lanes, moves, order);
+    let job = network::checks::check_job(nodes, lanes, closed, moves, order);
     let number = check_number(moves.len() / 2, carrier);
     if let Checked::Refused(_) = job {
         return job;
     }
-    let reach = check_reach(nodes, lanes, moves);
+    let reach = check_reach(nodes, lanes, closed, moves);
     if let Checked::Refused(_) = reach {
         return reach;
     }
@@ -107,14 +112,19 @@ pub fn check_asked(
 pub fn house_for(
     nodes: usize,
     lanes: &[u16],
+    closed: &[u16],
     moves: &[u16],
     order: &[u16],
     carrier: Carrier,
     path: &mut [u16],
 ) -> Housed
     ensures { λ r. ⌜ HouseAsked
-        (jobOf (networkOf nodes (now (lanes .entry))) (now (moves .entry)) (now (order .entry)))
-        (jobOf (networkOf nodes (now (lanes .exit))) (now (moves .exit)) (now (order .exit)))
+        (jobOf
+        (networkOf nodes (now (lanes .entry)) (now (closed .entry)))
+        (now (moves .entry)) (now (order .entry)))
+        (jobOf
+        (networkOf nodes (now (lanes .exit)) (now (closed .exit)))
+        (now (moves .exit)) (now (order .exit)))
         (carrier .0)
         (now (path .entry)) (now (path .exit))
         r ⌝ }
@@ -126,7 +136,7 @@ pub fn house_for(
             place: 0,
         });
     }
-    let asked = check_asked(nodes, lanes, moves, order, carrier);
+    let asked = check_asked(nodes, lanes, closed, moves, order, carrier);
     if let Checked::Refused(refusal) = asked {
         hall::zero::zero_first(path, Job::NODES);
         return Housed::Refused(refusal);
@@ -135,7 +145,7 @@ pub fn house_for(
     let at = 2 * number;
     let start = moves[at];
     let goal = moves[at + 1];
-    path::house(nodes, lanes, start, goal, path)
+    path::house(nodes, lanes, closed, start, goal, path)
 }
 
 // Whether a proposed list is a shortest path of one carrier's move. Where neither the job nor the number is
@@ -143,19 +153,24 @@ pub fn house_for(
 pub fn judge_for(
     nodes: usize,
     lanes: &[u16],
+    closed: &[u16],
     moves: &[u16],
     order: &[u16],
     carrier: Carrier,
     list: &[u16],
 ) -> Checked
     ensures { λ r. ⌜ ListAsked
-        (jobOf (networkOf nodes (now (lanes .entry))) (now (moves .entry)) (now (order .entry)))
-        (jobOf (networkOf nodes (now (lanes .exit))) (now (moves .exit)) (now (order .exit)))
+        (jobOf
+        (networkOf nodes (now (lanes .entry)) (now (closed .entry)))
+        (now (moves .entry)) (now (order .entry)))
+        (jobOf
+        (networkOf nodes (now (lanes .exit)) (now (closed .exit)))
+        (now (moves .exit)) (now (order .exit)))
         (carrier .0)
         (now (list .entry)) (now (list .exit))
         r ⌝ }
 {
-    let asked = check_asked(nodes, lanes, moves, order, carrier);
+    let asked = check_asked(nodes, lanes, closed, moves, order, carrier);
     if let Checked::Refused(_) = asked {
         return asked;
     }
@@ -163,5 +178,5 @@ pub fn judge_for(
     let at = 2 * number;
     let start = moves[at];
     let goal = moves[at + 1];
-    path::judge(nodes, lanes, start, goal, list)
+    path::judge(nodes, lanes, closed, start, goal, list)
 }

@@ -14,7 +14,9 @@
 --     laneCountIn s         how many lane numbers are taken from the network that stands at the front. They
 --                           are counted by four bytes, behind the four that count its nodes
 --     lanesIn s room        these lane numbers, or as many as there is room for
---     behindLanes s         what stands behind the lane numbers that are taken
+--     behindLanes s         what stands behind the lane numbers that are taken: the closed nodes, as a list
+--     closedListIn s room   these closed nodes, or as many as there is room for
+--     behindNetwork s       what stands behind them
 --     markedRoom            how many bytes the room with marks has: more than an output of a text must have
 --     byteMark              the mark that each of these bytes holds
 use mathlib.Core.List.{List, [], _∷_, _++_}
@@ -58,8 +60,14 @@ lanesIn s room = shortsIn (drop 8 s) (min (laneCountIn s) room)
 abbrev pub behindLanes : List ℕ → List ℕ
 behindLanes s = drop (8 + 2 * laneCountIn s) s
 
+abbrev pub closedListIn : List ℕ → (room : ℕ) → List ℕ
+closedListIn s room = listIn (behindLanes s) room
+
+abbrev pub behindNetwork : List ℕ → List ℕ
+behindNetwork s = behindList (behindLanes s)
+
 abbrev pub markedRoom : ℕ
-markedRoom = 42100
+markedRoom = 47232
 
 abbrev pub byteMark : ℕ
 byteMark = 77

@@ -9,6 +9,7 @@ ghost use Rattle.hall.specs.Limits.{textRoom};
 ghost use Rattle.batch.specs.Payloads.{byteIn, shortIn, longIn, shortsIn, shortsOver};
 ghost use Rattle.batch.specs.Payloads.{listRoom, listIn, behindList};
 ghost use Rattle.batch.specs.Payloads.{laneRoom, laneCountIn, lanesIn, behindLanes};
+ghost use Rattle.batch.specs.Payloads.{closedListIn, behindNetwork};
 ghost use Rattle.batch.specs.Payloads.{markedRoom, byteMark};
 
 pub fn least(a: usize, b: usize) -> usize
@@ -49,9 +50,9 @@ pub fn long_at(s: &[u8], at: usize) -> u32
     low + 65536 * high
 }
 
-// Room for a list, and for the numbers that a u32 counts: lane numbers, moves, an order. A caller's proof has
-// the length of an array that is returned from its type; that of a literal it counts place by place, in every
-// function that has one.
+// Room for a list, and for the numbers that a u32 counts: lane numbers, moves, an order. Closed nodes,
+// though a list, get the lesser room. A caller's proof has the length of an array that is returned from its
+// type; that of a literal it counts place by place, in every function that has one.
 pub fn list_room() -> [u16; 65535]
     ensures { λ r. ⌜ r ≡ replicate listRoom 0 ⌝ }
 {
@@ -71,10 +72,10 @@ pub fn text_room() -> [u8; Job::TEXT_BYTES]
     [0; Job::TEXT_BYTES]
 }
 
-pub fn marked_room() -> [u8; 42100]
+pub fn marked_room() -> [u8; 47232]
     ensures { λ r. ⌜ r ≡ replicate markedRoom byteMark ⌝ }
 {
-    [77; 42100]
+    [77; 47232]
 }
 
 // The front of a list, as much as `count` says and there is.
@@ -143,9 +144,23 @@ pub fn loaded_lanes<'a>(s: &[u8], room: &'a mut [u16]) -> &'a [u16]
     loaded(rest(s, 8), lane_numbers(s), room)
 }
 
-// What stands behind a network.
-pub fn behind_lanes(s: &[u8]) -> &[u8]
+// What stands behind its lane numbers: the closed nodes, as a list.
+fn behind_lanes(s: &[u8]) -> &[u8]
     ensures { λ r. ⌜ now r ≡ behindLanes (now (s .entry)) ⌝ }
 {
     rest(s, 8 + 2 * lane_numbers(s))
+}
+
+// The closed nodes of a network that stands at the front.
+pub fn loaded_closed<'a>(s: &[u8], room: &'a mut [u16]) -> &'a [u16]
+    ensures { λ r. ⌜ now r ≡ closedListIn (now (s .entry)) (length (now (room .entry))) ⌝ }
+{
+    loaded_list(behind_lanes(s), room)
+}
+
+// What stands behind a network.
+pub fn behind_network(s: &[u8]) -> &[u8]
+    ensures { λ r. ⌜ now r ≡ behindNetwork (now (s .entry)) ⌝ }
+{
+    behind_list(behind_lanes(s))
 }

@@ -45,7 +45,9 @@ pub fn read(answer: Read) {
             word(b"READ ");
             number(job.nodes as u64);
             word(b" ");
-            pair(job.lanes as u64, job.carriers as u64);
+            number(job.lanes as u64);
+            word(b" ");
+            pair(job.closed as u64, job.carriers as u64);
         }
         Read::Refused(r) => refused(r),
     }

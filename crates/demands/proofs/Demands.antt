@@ -4,8 +4,9 @@
 -- the distances are the true least lane counts, each start tick is the smallest permitted, the cost is the
 -- sum of the goal ticks, and without an earlier fault 8 comes exactly when some goal has no walk to it from
 -- its start. Demand 3: whatever shortest paths the carriers take, no two meet or cross, and each is where it
--- has to be. The work is done by the laws that are cited. That one move's questions have one answer, and the
--- choice too, stands in path's Unique.antt. Assumes nothing.
+-- has to be. Both speak of open nodes, since a network's floor has no others (hall's `floor`). The work is
+-- done by the laws that are cited. That one move's questions have one answer, and the choice too, stands in
+-- path's Unique.antt. Assumes nothing.
 --     one-reading, one-planning, one-house, one-judgement    demand 1: one answer and one content of each
 --                                                            table
 --     accepted-exactly, refused-exactly, refused-by-text    demand 1: a text is accepted, and refused with a
@@ -92,76 +93,83 @@ use Rattle.jobs.proofs.Unique.{read-job-unique, plan-unique, planned-sound, hou
 
 -- ---- demand 1: reading
 
-module _ (text lanes : List ℕ) (records : List Record) (order : List ℕ) (r s : Read) (t u l m : List ℕ)
-    (rs qs : List Record) (o p : List ℕ) where
-  pub one-reading : ReadLeft text t lanes l records rs order o r → ReadLeft text u lanes m records qs order p s →
-      (r ≡ s) × (t ≡ u) × (l ≡ m) × (rs ≡ qs) × (o ≡ p)
-  one-reading = read-job-unique text lanes records order r s t u l m rs qs o p
+module _ (text lanes closed : List ℕ) (records : List Record) (order : List ℕ) (r s : Read)
+    (t u l m cs ds : List ℕ) (rs qs : List Record) (o p : List ℕ) where
+  pub one-reading : ReadLeft text t lanes l closed cs records rs order o r →
+      ReadLeft text u lanes m closed ds records qs order p s →
+      (r ≡ s) × (t ≡ u) × (l ≡ m) × (cs ≡ ds) × (rs ≡ qs) × (o ≡ p)
+  one-reading = read-job-unique text lanes closed records order r s t u l m cs ds rs qs o p
 
-module _ {text text′ lanes lanes′ : List ℕ} {records records′ : List Record} {order order′ : List ℕ} {r : Read}
-    (a : ReadLeft text text′ lanes lanes′ records records′ order order′ r) where
+module _ {text text′ lanes lanes′ closed closed′ : List ℕ} {records records′ : List Record}
+    {order order′ : List ℕ} {r : Read}
+    (a : ReadLeft text text′ lanes lanes′ closed closed′ records records′ order order′ r) where
   -- a job's written form is accepted, with its counts and in tables that hold it, and nothing else is
   pub accepted-exactly : (j : Numbers) →
-      ((¬ LentShort lanes records order) × WrittenJob text j)
-      ↔ ((saidRead r ≡ accepted (countsOf j)) × (jobRead (countsOf j) lanes′ records′ order′ ≡ j))
+      ((¬ LentShort lanes closed records order) × WrittenJob text j)
+      ↔ ((saidRead r ≡ accepted (countsOf j)) × (jobRead (countsOf j) lanes′ closed′ records′ order′ ≡ j))
   accepted-exactly =
-      reads.accepted-exactly text lanes records order lanes′ records′ order′ (saidRead r) (a .given)
+      reads.accepted-exactly text lanes closed records order lanes′ closed′ records′ order′ (saidRead r) (a .given)
 
   -- refused with the number n at a line, exactly when the list says
   pub refused-exactly : (n line : ℕ) →
-      (saidRead r ≡ refused n line) ↔ Reason (LentShort lanes records order) text n line
+      (saidRead r ≡ refused n line) ↔ Reason (LentShort lanes closed records order) text n line
   refused-exactly =
-      reads.refused-exactly text lanes records order lanes′ records′ order′ (saidRead r) (a .given)
+      reads.refused-exactly text lanes closed records order lanes′ closed′ records′ order′ (saidRead r) (a .given)
 
   -- with long enough tables that is what the form says of the text
-  pub refused-by-text : ¬ LentShort lanes records order → (n line : ℕ) →
+  pub refused-by-text : ¬ LentShort lanes closed records order → (n line : ℕ) →
       (saidRead r ≡ refused n line) ↔ RefusedText jobText text n line
   refused-by-text long n line =
       let iff = refused-exactly n line in
       (λ e. by-form text n line long (iff .0 e), λ x. iff .1 (faulty long x))
 
-  pub nine-exactly : (saidRead r ≡ refused 9 0) ↔ LentShort lanes records order
-  nine-exactly = reads.nine-exactly text lanes records order lanes′ records′ order′ (saidRead r) (a .given)
+  pub nine-exactly : (saidRead r ≡ refused 9 0) ↔ LentShort lanes closed records order
+  nine-exactly = reads.nine-exactly text lanes closed records order lanes′ closed′ records′ order′ (saidRead r) (a .given)
 
   -- what the tables hold then
 
-  pub nine-untouched : LentShort lanes records order → (lanes′ ≡ lanes) × (records′ ≡ records) × (order′ ≡ order)
+  pub nine-untouched : LentShort lanes closed records order →
+      (lanes′ ≡ lanes) × (closed′ ≡ closed) × (records′ ≡ records) × (order′ ≡ order)
   nine-untouched s =
-      let x = subst (GivenJob text lanes records order lanes′ records′ order′) (nine-exactly .1 s) (a .given) in
-      (x .lanes-left, x .records-left, x .order-left)
+      let x = subst (GivenJob text lanes closed records order lanes′ closed′ records′ order′) (nine-exactly .1 s) (a .given) in
+      (x .lanes-left, x .closed-left, x .records-left, x .order-left)
 
-  pub refused-zeroed : ¬ LentShort lanes records order → (n line : ℕ) → RefusedText jobText text n line →
+  pub refused-zeroed : ¬ LentShort lanes closed records order → (n line : ℕ) → RefusedText jobText text n line →
       (lanes′ ≡ zeroed laneNumbers lanes)
+      × (closed′ ≡ zeroed nodeLimit closed)
       × (records′ ≡ filledRecords [] records)
       × (order′ ≡ zeroed carrierLimit order)
   refused-zeroed long n line faulty-at =
       let e = refused-by-text long n line .1 faulty-at in
-      let x = subst (GivenJob text lanes records order lanes′ records′ order′) e (a .given) in
-      let low = refused-with text n line faulty-at .1 in
-      let other : NotNine n = λ e. let y : ⊥ = omega arith in y in (
+      let x = subst (GivenJob text lanes closed records order lanes′ closed′ records′ order′) e (a .given) in
+      let other : NotNine n = refused-with text n line faulty-at .4 in (
         x .lanes-left ∙ left-by-other n laneNumbers lanes other,
+        x .closed-left ∙ left-by-other n nodeLimit closed other,
         rw (ne-eqb n 9 other) at (x .records-left),
         x .order-left ∙ left-by-other n carrierLimit order other,
       )
 
-  pub accepted-tables : ¬ LentShort lanes records order → (j : Numbers) → WrittenJob text j →
+  pub accepted-tables : ¬ LentShort lanes closed records order → (j : Numbers) → WrittenJob text j →
       (lanes′ ≡ filled (j .network .lanes) laneNumbers lanes)
+      × (closed′ ≡ filled (j .network .closed) nodeLimit closed)
       × (records′ ≡ filledRecords (j .moves) records)
       × (order′ ≡ filled (j .order) carrierLimit order)
   accepted-tables long j w =
-      let all = reads.accepted-holds text lanes records order lanes′ records′ order′ long j w in
+      let all = reads.accepted-holds text lanes closed records order lanes′ closed′ records′ order′ long j w in
       let holds = all (saidRead r) (a .given) in
-      (holds .1, holds .2, holds .3)
+      (holds .1, holds .2, holds .3, holds .4)
 
 -- an accepted text is the written form of the job that is left in the tables, which has no fault that comes
 -- before 8
-module _ (text text′ lanes lanes′ : List ℕ) (records records′ : List Record) (order order′ : List ℕ) (counts : Job)
-    (promise : ReadLeft text text′ lanes lanes′ records records′ order order′ (Read.Job counts)) where
-  pub accepted-text-written : WrittenJob text (jobRead counts lanes′ records′ order′)
-  accepted-text-written = read-is-written text lanes lanes′ records records′ order order′ counts (promise .given)
+module _ (text text′ lanes lanes′ closed closed′ : List ℕ) (records records′ : List Record)
+    (order order′ : List ℕ) (counts : Job)
+    (promise : ReadLeft text text′ lanes lanes′ closed closed′ records records′ order order′ (Read.Job counts)) where
+  pub accepted-text-written : WrittenJob text (jobRead counts lanes′ closed′ records′ order′)
+  accepted-text-written =
+      read-is-written text lanes lanes′ closed closed′ records records′ order order′ counts (promise .given)
 
   pub read-faultless : (table : List ℕ) → tableLength ≤ length table →
-      NoEarlierFault (jobRead counts lanes′ records′ order′) table
+      NoEarlierFault (jobRead counts lanes′ closed′ records′ order′) table
   read-faultless table long = record { long-table = long; none-checked = accepted-text-written .sound }
 
 module _ (N N′ : Network) (records records′ : List Record) (order order′ table table′ : List ℕ) where

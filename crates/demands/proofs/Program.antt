@@ -1,8 +1,8 @@
 -- What the program prints for a text is what the rules owe, from the promise of `report::answer` as it stands
 -- in the source. A text writes one job at most, or is refused at its first faulty line, never both (form's
--- JobTexts); a job without the faults 2 to 7 is refused for 8, or has a plan, which is safe and within the
--- limits (hall's `plan-safe`, `plan-within`). For every text one of the two is so, and for one number and
--- line, so the rules owe one text, and it is printed. Assumes nothing.
+-- JobTexts); a job without faults of the listed checks is refused for 8, or has a plan, which is safe and
+-- within the limits (hall's `plan-safe`, `plan-within`). For every text one of the two is so, and for one
+-- number and line, so the rules owe one text, and it is printed. Assumes nothing.
 --     answer-owed                  demands 1 to 3: what `answer` prints is owed
 --     one-owed                     the rules owe one text
 --     refused-printed, planned-printed    and it is printed: the refusal exactly with the number and the line

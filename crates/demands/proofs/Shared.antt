@@ -10,7 +10,8 @@
 --                          both among them
 --     accepted-in-a-row    if all have one start, the carrier at place p starts at tick p
 --     planned-two, planned-in-a-row    the same of the plan that the program owes for a text, and prints
---     read-never-six, plan-never-six, house-never-six, check-never-six, write-never-six    no question answers 6
+--     read-never-six, plan-never-six, house-never-six, check-never-six, write-never-six    no question
+--                          answers 6
 --     plan-six-never-first    nor do the checks of planning give it, of any job
 --     refused-never-six, six-never-printed    nor do the rules refuse a text with it, so that the program
 --                          never prints it

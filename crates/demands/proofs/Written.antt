@@ -3,16 +3,17 @@
 -- records `write_job` and `read_job`. Demand 1 of writing: one answer for every input, refused exactly when
 -- the list says, and what the output then holds. It is said of `Writing`, which is the promise of
 -- `write_numbers` of the job in its lists, and of `write_job`, by its part `given`, of the job in its
--- records. The round trips: a job without faults 2 to 7 is written, and comes back from its text; an accepted
--- text comes back byte for byte. Both promises speak of one written form, and a text is that of one job at
--- most (form's laws). A list with ′ or ₁ is as a function leaves it. Assumes nothing.
+-- records. The round trips: a job without faults of the listed checks is written, and comes back from its
+-- text; an accepted text comes back byte for byte. Both promises speak of one written form, and a text is
+-- that of one job at most (form's laws). A list with ′ or ₁ is as a function leaves it. Assumes nothing.
 --     write-refused-exactly    refused with a number at a place exactly when it is the first in the list
---     write-accepted-exactly   accepted exactly when the output is long enough and no fault 2 to 7 holds
---     write-listed             no other number is given than 2 to 5, 7 and 9
+--     write-accepted-exactly   accepted exactly when the output is long enough and no listed check holds
+--     write-listed             no other number is given than 2 to 5, 7, 9, 12 and 13
 --     write-nine-kept, write-other-zeroed, write-filled    what the output holds after 9, after another
 --                              refusal, and where the job is written
---     always-written           every job without faults 2 to 7 is written into an output that is long enough;
---                              its text has at most 41,967 bytes, as if each number had four digits
+--     always-written           every job without faults of the listed checks is written into an output that
+--                              is long enough; its text has at most 47,099 bytes, as if each number had four
+--                              digits
 --     write-unreached          a job that planning refuses with 8 is written
 --     written-front            the first bytes, as many as the answer says, are the text
 --     numbers-come-back, job-comes-back    what was written is read: the job, without an odd last number of
@@ -28,7 +29,7 @@ use Prim.Native.Nat.{ℕ, _*_, _≤_, _<_}
 use native.Mathlib.Omega.{arith}
 use lib.ListN.{length, take}
 use Rattle.hall.specs.declared.Job.{Job}
-use Rattle.hall.specs.Limits.{textRoom, laneNumbers, moveNumbers, carrierLimit}
+use Rattle.hall.specs.Limits.{textRoom, nodeLimit, laneNumbers, moveNumbers, carrierLimit}
 use Rattle.hall.specs.Floor.{Network, laneCount, networkOf}
 use Rattle.hall.specs.Job.{Numbers, jobOf, carriers}
 use Rattle.hall.specs.Stages.{First, None}
@@ -98,7 +99,8 @@ module _ (j : Numbers) (out out′ : List ℕ) where
         ((textRoom ≤ length out) × None (checksQuestion j)) ↔ (saidWritten r ≡ accepted (length (textOf j)))
     write-accepted-exactly = accepted-so (saidWritten r) a
 
-    pub write-listed : {n p : ℕ} → saidWritten r ≡ refused n p → (2 ≤ n) × (n ≤ 9) × (n ≢ 6) × (n ≢ 8)
+    pub write-listed : {n p : ℕ} → saidWritten r ≡ refused n p →
+        (2 ≤ n) × (n ≤ 13) × (n ≢ 6) × (n ≢ 8) × (n ≢ 10) × (n ≢ 11)
     write-listed {n} {p} e = writing-numbers j (write-refused-exactly n p .0 e)
 
     -- what the output holds then
@@ -115,9 +117,9 @@ module _ (j : Numbers) (out out′ : List ℕ) where
     pub write-filled : textRoom ≤ length out → None (checksQuestion j) → out′ ≡ filled (textOf j) textRoom out
     write-filled long none = subst Writes (write-accepted-exactly .0 (long, none)) a .output-left
 
-    -- every job without faults 2 to 7 is written, and 42,000 bytes are enough for it
+    -- every job without faults of the listed checks is written, and 47,132 bytes are enough for it
     pub always-written : textRoom ≤ length out → None (checksQuestion j) →
-        (r ≡ Bytes (length (textOf j))) × (length (textOf j) ≤ 41967)
+        (r ≡ Bytes (length (textOf j))) × (length (textOf j) ≤ 47099)
     always-written long none =
         (said-bytes r (length (textOf j)) (write-accepted-exactly .0 (long, none)), written-length j none)
 
@@ -149,84 +151,95 @@ module _ (j : Numbers) (out out′ : List ℕ) where
 whole-counts : (j : Numbers) → countsOf (wholeJob j) ≡ countsOf j
 whole-counts j =
     let count = whole-count (j .moves) in
-    λ i. record { nodes = j .network .nodes; lanes = laneCount (j .network .lanes); carriers = count i }
+    λ i. record {
+      nodes = j .network .nodes;
+      lanes = laneCount (j .network .lanes);
+      closed = length (j .network .closed);
+      carriers = count i;
+    }
 
 -- a job whose moves go by twos stands in tables that are filled with its numbers
-numbers-filled : (j : Numbers) (lanes moves order l m o : List ℕ) →
+numbers-filled : (j : Numbers) (lanes closed moves order l v m o : List ℕ) →
     None (checksQuestion j) → length (j .moves) ≡ 2 * carriers j →
     l ≡ filled (j .network .lanes) laneNumbers lanes →
+    v ≡ filled (j .network .closed) nodeLimit closed →
     m ≡ filled (j .moves) moveNumbers moves →
     o ≡ filled (j .order) carrierLimit order →
-    numbersRead (countsOf j) l m o ≡ j
-numbers-filled j lanes moves order l m o none paired el em eo =
+    numbersRead (countsOf j) l v m o ≡ j
+numbers-filled j lanes closed moves order l v m o none paired el ev em eo =
     let nodes = j .network .nodes in
     let k = carriers j in
     let as-lanes =
     ap (λ (t : List ℕ). take (2 * laneCount (j .network .lanes)) t) el
     ∙ filled-front (j .network .lanes) laneNumbers lanes _ (lanes-paired j none) in
+    let as-closed =
+    ap (λ (t : List ℕ). take (length (j .network .closed)) t) ev
+    ∙ filled-front (j .network .closed) nodeLimit closed _ refl in
     let as-moves =
     ap (λ (t : List ℕ). take (2 * k) t) em ∙ filled-front (j .moves) moveNumbers moves (2 * k) paired in
     let as-order =
     ap (λ (t : List ℕ). take k t) eo
     ∙ filled-front (j .order) carrierLimit order k (well-formed-iff j .0 none .order-count) in
-    λ i. jobOf (networkOf nodes (as-lanes i)) (as-moves i) (as-order i)
+    λ i. jobOf (networkOf nodes (as-lanes i) (as-closed i)) (as-moves i) (as-order i)
 
-module _ (lanes moves order lanes′ moves′ order′ : List ℕ) where
-  -- what was written is read: the same counts, lanes, moves and order; an odd last number was in no move
+module _ (lanes closed moves order lanes′ closed′ moves′ order′ : List ℕ) where
+  -- what was written is read: the same counts, lanes, closed nodes, moves and order; an odd last number was
+  -- in no move
   pub numbers-come-back : (j : Numbers) (out out′ : List ℕ) (size : ℕ) (r : Read) →
       Writing j out out′ (saidWritten (Bytes size)) →
-      ¬ AnyShort lanes moves order →
-      ReadInto (take size out′) lanes moves order lanes′ moves′ order′ (saidRead r) →
-      (r ≡ Read.Job (countsOf j)) × (numbersRead (countsOf j) lanes′ moves′ order′ ≡ wholeJob j)
+      ¬ AnyShort lanes closed moves order →
+      ReadInto (take size out′) lanes closed moves order lanes′ closed′ moves′ order′ (saidRead r) →
+      (r ≡ Read.Job (countsOf j)) × (numbersRead (countsOf j) lanes′ closed′ moves′ order′ ≡ wholeJob j)
   numbers-come-back j out out′ size r a long b =
       let w = whole-written j (none-asked (a .no-fault) .1) in
       let front = written-front j out out′ size a in
       let read : WrittenJob (take size out′) (wholeJob j) = rw front w in
       let x =
-      accepted-as (take size out′) lanes moves order lanes′ moves′ order′ long (saidRead r) b (wholeJob j) read in
+      accepted-as (take size out′) lanes closed moves order lanes′ closed′ moves′ order′ long (saidRead r) b (wholeJob j) read in
       let counts = whole-counts j in
       let stands =
-      numbers-filled (wholeJob j) lanes moves order lanes′ moves′ order′ (w .sound) (w .paired) (x .1) (x .2) (x .3) in (
+      numbers-filled (wholeJob j) lanes closed moves order lanes′ closed′ moves′ order′ (w .sound) (w .paired) (x .1) (x .2) (x .3)
+      (x .4) in (
         said-read-one r (Read.Job (countsOf j)) (x .0 ∙ ap accepted counts),
-        ap (λ (c : Job). numbersRead c lanes′ moves′ order′) (sym counts) ∙ stands,
+        ap (λ (c : Job). numbersRead c lanes′ closed′ moves′ order′) (sym counts) ∙ stands,
       )
 
   pub paired-come-back : (j : Numbers) (out out′ : List ℕ) (size : ℕ) (r : Read) →
       length (j .moves) ≡ 2 * carriers j →
       Writing j out out′ (saidWritten (Bytes size)) →
-      ¬ AnyShort lanes moves order →
-      ReadInto (take size out′) lanes moves order lanes′ moves′ order′ (saidRead r) →
-      (r ≡ Read.Job (countsOf j)) × (numbersRead (countsOf j) lanes′ moves′ order′ ≡ j)
+      ¬ AnyShort lanes closed moves order →
+      ReadInto (take size out′) lanes closed moves order lanes′ closed′ moves′ order′ (saidRead r) →
+      (r ≡ Read.Job (countsOf j)) × (numbersRead (countsOf j) lanes′ closed′ moves′ order′ ≡ j)
   paired-come-back j out out′ size r paired a long b =
       let back = numbers-come-back j out out′ size r a long b in
       (back .0, back .1 ∙ ap (λ (ms : List ℕ). jobOf (j .network) ms (j .order)) (whole-paired (j .moves) paired))
 
   -- what was read is written: the same bytes
   pub numbers-text-comes-back : (text out out′ : List ℕ) (counts : Job) (r : Written) →
-      ReadInto text lanes moves order lanes′ moves′ order′ (saidRead (Read.Job counts)) →
+      ReadInto text lanes closed moves order lanes′ closed′ moves′ order′ (saidRead (Read.Job counts)) →
       textRoom ≤ length out →
-      Writing (numbersRead counts lanes′ moves′ order′) out out′ (saidWritten r) →
+      Writing (numbersRead counts lanes′ closed′ moves′ order′) out out′ (saidWritten r) →
       (r ≡ Bytes (length text)) × (take (length text) out′ ≡ text) × (out′ ≡ filled text textRoom out)
   numbers-text-comes-back text out out′ counts r b long a =
       let w = b .writes in
-      let same : numbersRead counts lanes′ moves′ order′ ≡ b .job =
-      ap (λ (c : Job). numbersRead c lanes′ moves′ order′) (b .is-counts)
-      ∙ numbers-filled (b .job) lanes moves order lanes′ moves′ order′ (w .sound) (w .paired)
-      (b .lanes-left) (b .moves-left) (b .order-left) in
+      let same : numbersRead counts lanes′ closed′ moves′ order′ ≡ b .job =
+      ap (λ (c : Job). numbersRead c lanes′ closed′ moves′ order′) (b .is-counts)
+      ∙ numbers-filled (b .job) lanes closed moves order lanes′ closed′ moves′ order′ (w .sound) (w .paired)
+      (b .lanes-left) (b .closed-left) (b .moves-left) (b .order-left) in
       let its = subst (λ (j : Numbers). Writing j out out′ (saidWritten r)) same a in
       written-again (b .job) out out′ r its w long
 
 -- ---- with records
 
--- what was written is read: the same counts, lanes, moves and order
+-- what was written is read: the same counts, lanes, closed nodes, moves and order
 pub job-comes-back : {N N′ : Network} {records records′ : List Record} {order order′ out out′ : List ℕ}
-    {text′ lanes₀ lanes₁ : List ℕ} {records₀ records₁ : List Record} {order₀ order₁ : List ℕ}
+    {text′ lanes₀ lanes₁ closed₀ closed₁ : List ℕ} {records₀ records₁ : List Record} {order₀ order₁ : List ℕ}
     (size : ℕ) (r : Read) →
     RecordWriting N N′ records records′ order order′ out out′ (Bytes size) →
-    ¬ LentShort lanes₀ records₀ order₀ →
-    ReadLeft (take size out′) text′ lanes₀ lanes₁ records₀ records₁ order₀ order₁ r →
+    ¬ LentShort lanes₀ closed₀ records₀ order₀ →
+    ReadLeft (take size out′) text′ lanes₀ lanes₁ closed₀ closed₁ records₀ records₁ order₀ order₁ r →
     let j = recordJob N records order in
-    (r ≡ Read.Job (countsOf j)) × (jobRead (countsOf j) lanes₁ records₁ order₁ ≡ j)
+    (r ≡ Read.Job (countsOf j)) × (jobRead (countsOf j) lanes₁ closed₁ records₁ order₁ ≡ j)
 job-comes-back {N} {records = records} {order = order} {out = out} {out′ = out′} size r a long b =
     let j = recordJob N records order in
     let twos : length (movesOf records) ≡ 2 * carriers j = omega (arith, moves-length records) in
@@ -240,22 +253,23 @@ job-comes-back {N} {records = records} {order = order} {out = out} {out′ = out
 
 -- what was read is written: the same bytes. The network and the order that the counts cut out of the tables
 -- are lent to writing, and records with the moves that were read, whatever their distances and ticks are
-pub text-comes-back : {text text′ lanes lanes′ : List ℕ} {records records′ planned rs : List Record}
-    {order order′ o out out′ : List ℕ} {N′ : Network} (counts : Job) (r : Written) →
-    ReadLeft text text′ lanes lanes′ records records′ order order′ (Read.Job counts) →
+pub text-comes-back : {text text′ lanes lanes′ closed closed′ : List ℕ}
+    {records records′ planned rs : List Record} {order order′ o out out′ : List ℕ} {N′ : Network} (counts : Job) (r : Written) →
+    ReadLeft text text′ lanes lanes′ closed closed′ records records′ order order′ (Read.Job counts) →
     movesOf planned ≡ movesOf (take (counts .carriers) records′) →
     textRoom ≤ length out →
-    RecordWriting (networkOf (counts .nodes) (take (2 * counts .lanes) lanes′)) N′
+    RecordWriting
+    (networkOf (counts .nodes) (take (2 * counts .lanes) lanes′) (take (counts .closed) closed′)) N′
     planned rs
     (take (counts .carriers) order′) o
     out out′ r →
     (r ≡ Bytes (length text)) × (take (length text) out′ ≡ text) × (out′ ≡ filled text textRoom out)
-text-comes-back {text} {text′} {lanes} {lanes′} {records} {records′} {order = order} {order′ = order′} {out = out} {out′ = out′} counts r b same long a =
-    let w = accepted-text-written text text′ lanes lanes′ records records′ order order′ counts b in
-    let N = networkOf (counts .nodes) (take (2 * counts .lanes) lanes′) in
+text-comes-back {text} {text′} {lanes} {lanes′} {closed} {closed′} {records} {records′} {order = order} {order′ = order′} {out = out} {out′ = out′} counts r b same long a =
+    let w = accepted-text-written text text′ lanes lanes′ closed closed′ records records′ order order′ counts b in
+    let N = networkOf (counts .nodes) (take (2 * counts .lanes) lanes′) (take (counts .closed) closed′) in
     let as-read = ap (λ (ms : List ℕ). jobOf N ms (take (counts .carriers) order′)) same in
     let its = subst (λ (k : Numbers). Writing k out out′ (saidWritten r)) as-read (a .given) in
-    written-again (jobRead counts lanes′ records′ order′) out out′ r its w long
+    written-again (jobRead counts lanes′ closed′ records′ order′) out out′ r its w long
 
 -- ---- one answer
 

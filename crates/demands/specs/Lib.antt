@@ -1,2 +1,3 @@
--- What is owed to whoever runs the program.
+-- What is owed to whoever runs the program, and when a job is refused for its closed nodes.
 pub mod Owed
+pub mod Closed

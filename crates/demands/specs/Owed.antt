@@ -1,8 +1,8 @@
 -- What is owed to whoever runs the program on a job text (rules 10.1 to 10.3 and 12.1 to 12.3), in the words
 -- of the written form and of the definitions. No reader and no planner stands in it.
 --     RefusedFor      by the rules the text is refused with a number at a line: at its first faulty line, or,
---                     if it is the written form of a job without the faults 2 to 7, with 8 at the line of the
---                     lowest carrier that no walk takes from its start to its goal
+--                     if it is the written form of a job without faults of the listed checks, with 8 at the
+--                     line of the lowest carrier that no walk takes from its start to its goal
 --     PlannedAs       by the rules the text has this plan: it is the written form of a job without faults;
 --                     the tables hold the true distances and each carrier has one; each start tick is the
 --                     smallest, in the order's turn, that the carriers before permit; the cost is the sum of

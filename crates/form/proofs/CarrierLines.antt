@@ -2,12 +2,14 @@
 -- written (rules 7.10 and 10.2). Its entry is the one with its number in its section, so that the lines above
 -- are those of the sections before, the line of the count and an entry's for each carrier before. Assumes
 -- nothing.
---     carrier-line       with m lanes, carrier i stands in line 4 + m + i
+--     carrier-line       with m lanes, carrier i stands in line 4 + m + i where nothing is closed, and as
+--                        many lines further down as the closed nodes' section has (`closedLines`) otherwise
+--     none-closed, some-closed    how many it has, by the count of the closed nodes
 --     carrier-written    in the text of a job that line has the carrier's start and goal
 --     job-lines          how many lines the text of a job has
 use mathlib.Core.Path.{_≡_, refl, _∙_, ap}
 use mathlib.Core.List.{List, [], _∷_, _++_, append-assoc, append-nil}
-use Prim.Native.Nat.{ℕ, zero, suc, _+_, _*_, _/_, _<_}
+use Prim.Native.Nat.{ℕ, zero, suc, _+_, _*_, _/_, _≤_, _<_}
 use native.Mathlib.Omega.{arith}
 use lib.ListN.{length, getD}
 use Rattle.hall.specs.Floor.{laneCount}
@@ -15,22 +17,70 @@ use Rattle.hall.specs.Job.{Numbers, startIn, goalIn, start, goal}
 use Rattle.hall.specs.Job as job
 use Rattle.form.specs.Lines.{entryLine, entryLines, LineIs}
 use Rattle.form.specs.Sections.{Content, content, sameWord}
-use Rattle.form.specs.Words.{NODES, LANES, CARRIERS, ORDER}
+use Rattle.form.specs.Words.{NODES, LANES, CLOSED, CARRIERS, ORDER}
 use Rattle.form.specs.Contents.{written, lineCount}
-use Rattle.form.specs.Jobs.{pairs, singles, contentsOf, WrittenJob, linesAbove, lineOf}
-use Rattle.form.proofs.Steps.{written-append, entries-append}
+use Rattle.form.specs.Jobs.{pairs, singles, closedContents, contentsOf, WrittenJob}
+use Rattle.form.specs.Jobs.{linesAbove, closedLines, lineOf}
+use Rattle.form.proofs.Steps.{written-append, entries-append, lines-append}
 use Rattle.form.proofs.Rows.{pairs-count, singles-count}
-use Rattle.form.proofs.LineNumbers.{Lined, line-is}
+use Rattle.form.proofs.LineNumbers.{Lined, lined-append, line-is}
 use Rattle.form.proofs.JobTexts.{job-told}
 
-pub carrier-line : (j : Numbers) (i : ℕ) → lineOf j i ≡ 4 + laneCount (j .network .lanes) + i
-unfolding linesAbove sameWord NODES LANES CARRIERS
-carrier-line j i = omega (arith, pairs-count (j .network .lanes))
+-- ---- the lines of the closed nodes
+
+pub none-closed : (l : List ℕ) → length l ≡ 0 → closedLines l ≡ 0
+none-closed [] e = refl
+none-closed (v ∷ l) e = absurd (let x : ⊥ = omega arith in x)
+
+pub some-closed : (l : List ℕ) → 1 ≤ length l → closedLines l ≡ 1 + length l
+some-closed [] h = absurd (let x : ⊥ = omega arith in x)
+some-closed (v ∷ l) h = omega arith
+
+closed-lines : (l : List ℕ) → lineCount (closedContents l) ≡ closedLines l
+unfolding lineCount
+closed-lines [] = refl
+closed-lines (v ∷ l) = omega (arith, singles-count (v ∷ l))
+
+closed-lined : (l : List ℕ) → Lined (closedContents l)
+closed-lined [] = tt
+closed-lined (v ∷ l) = (job-told .2 .2 .0, tt)
+
+-- ---- the lines above the carriers
+
+lines-above : (n m k : ℕ) (lanes moves : List (List ℕ)) (more : List Content) (closed : List ℕ)
+    → linesAbove CARRIERS
+    (content NODES n [] ∷ content LANES m lanes ∷ (closedContents closed ++ (content CARRIERS k moves ∷ more)))
+    ≡ 2 + length lanes + closedLines closed
+unfolding linesAbove sameWord NODES LANES CLOSED CARRIERS
+lines-above n m k lanes moves more [] = omega arith
+lines-above n m k lanes moves more (v ∷ l) = omega (arith, singles-count (v ∷ l))
+
+pub carrier-line : (j : Numbers) (i : ℕ)
+    → lineOf j i ≡ 4 + laneCount (j .network .lanes) + closedLines (j .network .closed) + i
+carrier-line j i =
+    let last = content ORDER (length (j .order)) (singles (j .order)) ∷ [] in
+    omega (
+      arith,
+      pairs-count (j .network .lanes),
+      lines-above (j .network .nodes) (laneCount (j .network .lanes)) (job.carriers j)
+          (pairs (j .network .lanes)) (pairs (j .moves)) last (j .network .closed),
+    )
 
 pub job-lines : (j : Numbers)
-    → lineCount (contentsOf j) ≡ 4 + laneCount (j .network .lanes) + job.carriers j + length (j .order)
+    → lineCount (contentsOf j)
+    ≡ 4 + laneCount (j .network .lanes) + closedLines (j .network .closed) + job.carriers j + length (j .order)
 unfolding lineCount
-job-lines j = omega (arith, pairs-count (j .network .lanes), pairs-count (j .moves), singles-count (j .order))
+job-lines j =
+    let behind =
+    content CARRIERS (job.carriers j) (pairs (j .moves)) ∷ content ORDER (length (j .order)) (singles (j .order)) ∷ [] in
+    omega (
+      arith,
+      pairs-count (j .network .lanes),
+      pairs-count (j .moves),
+      singles-count (j .order),
+      lines-append (closedContents (j .network .closed)) behind,
+      closed-lines (j .network .closed),
+    )
 
 -- ---- one entry of many
 
@@ -76,7 +126,7 @@ module _ (t : List ℕ) (j : Numbers) (w : WrittenJob t j) (i : ℕ) (inside : i
   above : List Content
   above = content NODES (j .network .nodes) []
       ∷ content LANES (laneCount (j .network .lanes)) (pairs (j .network .lanes))
-      ∷ []
+      ∷ closedContents (j .network .closed)
 
   its : PairAt (j .moves) i
   its = pair-at (j .moves) i inside
@@ -86,11 +136,23 @@ module _ (t : List ℕ) (j : Numbers) (w : WrittenJob t j) (i : ℕ) (inside : i
 
   lined : Lined front
   unfolding front above
-  lined = (job-told .0, (job-told .2 .0, (job-told .2 .2 .0, tt)))
+  lined =
+      let shut = closed-lined (j .network .closed) in
+      let carriers : Lined (content CARRIERS (job.carriers j) (its .before) ∷ []) = (job-told .2 .2 .2 .0, tt) in
+      (job-told .0, (job-told .2 .0, lined-append (closedContents (j .network .closed)) _ shut carriers))
 
   here : suc (lineCount front) ≡ lineOf j i
   unfolding front above lineCount
-  here = omega (arith, carrier-line j i, pairs-count (j .network .lanes), its .counted)
+  here =
+      omega (
+        arith,
+        carrier-line j i,
+        pairs-count (j .network .lanes),
+        its .counted,
+        lines-append (closedContents (j .network .closed))
+            (content CARRIERS (job.carriers j) (its .before) ∷ []),
+        closed-lines (j .network .closed),
+      )
 
   pub carrier-written : LineIs t (lineOf j i) (entryLine (start j i ∷ goal j i ∷ []))
   unfolding front above

@@ -1,7 +1,7 @@
 -- Texts by their bytes, and what the definitions say of them (rules 7.11, 7.12, 7.14, 8.21 and 11.12): the
 -- printed example is accepted as its job; a count that does not fit, a leading zero, a lane that falls, a
 -- move with two faults, a missing line, a missing line feed and bytes that are left over are refused with
--- their number at their line. Each is a closed case.
+-- their number at their line. Each is a closed case. Texts with closed nodes are in ClosedExamples.antt.
 --     example-text, example-written    the text of rule 7.14, and that it is the written form of its job
 --     example-read                     so it is accepted as this job
 --     no-nodes, many-nodes             `NODES 0` and `NODES 1025` are 2 at line 1
@@ -31,17 +31,18 @@ use Rattle.put.specs.Digits.{digits, digitsUpTo}
 use Rattle.form.specs.Lines.{further, entryLine, entryLines, countLine, Counted}
 use Rattle.form.specs.Sections.{content, countOf, sameWord, numbersIn}
 use Rattle.form.specs.Words.{NODES, LANES, CARRIERS, ORDER}
-use Rattle.form.specs.Contents.{written, first}
+use Rattle.form.specs.Contents.{Picks, written, first, past}
 use Rattle.form.specs.Stands.{within}
 use Rattle.form.specs.Texts.{Refused}
-use Rattle.form.specs.JobText.{nodesSection, lanesSection, carriersSection, orderSection, jobText}
+use Rattle.form.specs.JobText.{nodesSection, lanesSection, closedSection, carriersSection}
+use Rattle.form.specs.JobText.{orderSection, jobText}
 use Rattle.form.specs.Jobs.{pairs, singles, WrittenJob}
 use Rattle.form.specs.Reached.{Reached}
 use Rattle.form.proofs.Cuts.{cut-unique, digits-plain, tail-same, never-empty, zero-alone}
 use Rattle.form.proofs.LineForms.{count-some}
 use Rattle.form.proofs.LineTests.{front-unique}
-use Rattle.form.proofs.Reached.{at-start, past-count, count-refused, entry-refused, first-lacking}
-use Rattle.form.proofs.Reached.{left-over}
+use Rattle.form.proofs.Reached.{at-start, past-count, count-refused, entry-refused}
+use Rattle.form.proofs.Reached.{first-lacking, left-over}
 use Rattle.form.proofs.JobTexts.{jobReading, job-reading-exactly}
 
 -- ---- the example of rule 7.14
@@ -65,7 +66,7 @@ example-text =
 
 abbrev pub example : Numbers
 example =
-    jobOf (networkOf 5 (0 ∷ 1 ∷ 1 ∷ 2 ∷ 2 ∷ 3 ∷ 3 ∷ 4 ∷ [])) (0 ∷ 4 ∷ 4 ∷ 0 ∷ 2 ∷ 1 ∷ []) (0 ∷ 1 ∷ 2 ∷ [])
+    jobOf (networkOf 5 (0 ∷ 1 ∷ 1 ∷ 2 ∷ 2 ∷ 3 ∷ 3 ∷ 4 ∷ []) []) (0 ∷ 4 ∷ 4 ∷ 0 ∷ 2 ∷ 1 ∷ []) (0 ∷ 1 ∷ 2 ∷ [])
 
 pub example-written : WrittenJob example-text example
 unfolding example-text written countLine entryLines entryLine further digits digitsUpTo pairs singles
@@ -121,7 +122,8 @@ module _ (rest : List ℕ) where
   abbrev pub two-nodes : List ℕ
   two-nodes = countLine NODES 2 ++ rest
 
-  pub behind-nodes : Reached jobText two-nodes (within [] nodesSection 2 [] (lanesSection ∷ carriersSection ∷ orderSection ∷ [])) rest 2
+  pub behind-nodes : Reached jobText two-nodes
+      (within [] nodesSection 2 [] (lanesSection ∷ closedSection ∷ carriersSection ∷ orderSection ∷ [])) rest 2
   behind-nodes =
       past-count jobText two-nodes (at-start jobText two-nodes) tt nodesSection _ (first nodesSection _)
       (record { n = 2; rest = rest; small = omega arith; begins = refl }) (omega arith, omega arith)
@@ -151,16 +153,23 @@ module _ (rest : List ℕ) where
   no-lanes = two-nodes (countLine LANES 0 ++ rest)
 
   pub behind-lanes : Reached jobText no-lanes
-      (within (content NODES 2 [] ∷ []) lanesSection 0 [] (carriersSection ∷ orderSection ∷ [])) rest 3
+      (within (content NODES 2 [] ∷ []) lanesSection 0 [] (closedSection ∷ carriersSection ∷ orderSection ∷ []))
+      rest 3
   behind-lanes =
       past-count jobText no-lanes (behind-nodes (countLine LANES 0 ++ rest)) refl lanesSection _ (first lanesSection _)
       (record { n = 0; rest = rest; small = omega arith; begins = refl }) (omega arith, omega arith)
+
+-- the carriers' section may come next where nothing is closed
+past-closed : Picks (closedSection ∷ carriersSection ∷ orderSection ∷ []) carriersSection (orderSection ∷ [])
+past-closed =
+    past closedSection carriersSection (carriersSection ∷ orderSection ∷ []) (orderSection ∷ []) refl
+    (first carriersSection (orderSection ∷ []))
 
 module _ (rest : List ℕ) where
   pub many-carriers : Refused jobText (no-lanes (countLine CARRIERS 65 ++ rest)) 2 3
   many-carriers =
       count-refused jobText _ (behind-lanes (countLine CARRIERS 65 ++ rest)) refl carriersSection _
-      (first carriersSection _)
+      past-closed
       (record { n = 65; rest = rest; small = omega arith; begins = refl })
       (λ h. let a = h .1 in let x : ⊥ = omega arith in x)
 
@@ -171,7 +180,7 @@ module _ (rest : List ℕ) where
       let t = no-lanes (countLine CARRIERS 1 ++ (entryLine (2 ∷ 2 ∷ []) ++ rest)) in
       let move = past-count jobText t
       (behind-lanes (countLine CARRIERS 1 ++ (entryLine (2 ∷ 2 ∷ []) ++ rest))) refl carriersSection _
-      (first carriersSection _)
+      past-closed
       (record { n = 1; rest = entryLine (2 ∷ 2 ∷ []) ++ rest; small = omega arith; begins = refl })
       (omega arith, omega arith) in
       entry-refused jobText t move (omega arith)
@@ -193,7 +202,7 @@ module _ (rest : List ℕ) where
       (within (content NODES 2 [] ∷ content LANES 0 [] ∷ []) carriersSection 0 [] (orderSection ∷ [])) rest 4
   behind-carriers =
       past-count jobText no-carriers (behind-lanes (countLine CARRIERS 0 ++ rest)) refl carriersSection _
-      (first carriersSection _)
+      past-closed
       (record { n = 0; rest = rest; small = omega arith; begins = refl }) (omega arith, omega arith)
 
 module _ (rest : List ℕ) where

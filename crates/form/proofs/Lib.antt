@@ -6,7 +6,7 @@
 --                   Lengths, LongTexts, LineNumbers: how long it is, what its first bytes say, its lines
 --     sections      WordTests, Tables, Rows, FirstSections: their words, a reader's table, lists as entries
 --     job texts     WrittenJobs, AcceptedJobs, JobTexts, WholeJobs, CarrierLines
---     by bytes      Examples
+--     by bytes      Examples, ClosedExamples
 pub mod Cuts
 pub mod LineForms
 pub mod LineTests
@@ -31,3 +31,4 @@ pub mod JobTexts
 pub mod WholeJobs
 pub mod CarrierLines
 pub mod Examples
+pub mod ClosedExamples

@@ -2,6 +2,7 @@
 -- line has one, at its end. So the line at which a text is refused is a line of the text, or the one that
 -- would come next. Assumes that the words of the sections are plain and differ (`Told`).
 --     Lined            contents have plain words, so that each line has one line feed
+--     lined-append     two of them, one behind the other
 --     written-feeds    as many line feeds as lines; written-whole the last byte is one
 --     line-is          behind written contents comes the line that follows theirs
 --     refused-line     so where a text is refused
@@ -141,7 +142,7 @@ line-is cs line after h =
 
 -- ---- where a text is refused
 
-lined-append : (a b : List Content) → Lined a → Lined b → Lined (a ++ b)
+pub lined-append : (a b : List Content) → Lined a → Lined b → Lined (a ++ b)
 lined-append [] b h k = k
 lined-append (c ∷ a) b h k = (h .0, lined-append a b (h .1) k)
 

@@ -8,9 +8,9 @@
 --     reading-exactly    it is what the text says
 --     read-back          contents that are written are read as what they were
 --     write-back         what is read is written as the text was
---     refusal-numbers    a text is refused with 1 to 5 and 7 only (rule 8.21)
+--     refusal-numbers    a text is refused with 1 to 5, 7, 12 and 13 only (rule 8.21)
 use mathlib.Core.Path.{_≡_, refl, sym, _∙_, ap}
-use mathlib.Core.Logic.{_⊎_, inl, inr, _↔_, _≢_}
+use mathlib.Core.Logic.{_⊎_, inl, inr, _↔_}
 use mathlib.Core.List.{List, [], _∷_, _++_}
 use Prim.Native.Nat.{ℕ, zero, suc, _+_, _≤_, _<_}
 use native.Mathlib.Nat.{le-refl}
@@ -26,7 +26,7 @@ use Rattle.form.specs.Texts.{Stops, formless, failing, WrittenForm, Refu
 use Rattle.form.specs.Reached.{Reached}
 use Rattle.form.proofs.Cuts.{same?}
 use Rattle.form.proofs.Steps.{Told, next-some}
-use Rattle.form.proofs.Checks.{check-numbers}
+use Rattle.form.proofs.Checks.{TextNumber, check-numbers}
 use Rattle.form.proofs.StepTests.{Formed, form?, judged, ends?}
 use Rattle.form.proofs.Reached.{at-start, past-line, refused-here, at-end}
 use Rattle.form.proofs.Runs.{contents-unique, refusal-unique, not-both}
@@ -113,16 +113,18 @@ module _ (F : Form) where
 
   -- ---- which numbers
 
-  fault-numbers : (to : Stand) (f : ℕ) → Faulty to f → (1 ≤ f) × (f ≤ 7) × (f ≢ 6)
-  fault-numbers start f h = absurd h
-  fault-numbers (within read s n [] left) f h = (omega (arith, h .0), omega (arith, h .0), λ e. omega (arith, h .0))
-  fault-numbers (within read s n (e ∷ es) left) f h =
-      let r = check-numbers (s .entry) read (numbersIn (e ∷ es)) f (length es) h in
-      (omega (arith, r .0), r .1, r .2)
+  own-number : {f : ℕ} (n : ℕ) → TextNumber n → f ≡ n → TextNumber f
+  own-number n is e = rw e is
 
-  pub refusal-numbers : (text : List ℕ) (f l : ℕ) → Refused F text f l → (1 ≤ f) × (f ≤ 7) × (f ≢ 6)
+  fault-numbers : (to : Stand) (f : ℕ) → Faulty to f → TextNumber f
+  fault-numbers start f h = absurd h
+  fault-numbers (within read s n [] left) f h = own-number 2 (omega arith) (h .0)
+  fault-numbers (within read s n (e ∷ es) left) f h =
+      check-numbers (s .entry) read (numbersIn (e ∷ es)) f (length es) h .1
+
+  pub refusal-numbers : (text : List ℕ) (f l : ℕ) → Refused F text f l → TextNumber f
   refusal-numbers text f l r = cases (r .stops)
     where
-      cases : {st : Stand} {rest : List ℕ} → Stops F st rest f → (1 ≤ f) × (f ≤ 7) × (f ≢ 6)
-      cases (formless e none no-end) = (omega arith, omega arith, λ x. omega arith)
+      cases : {st : Stand} {rest : List ℕ} → Stops F st rest f → TextNumber f
+      cases (formless e none no-end) = own-number 1 (omega arith) e
       cases (failing line to more x e h) = fault-numbers to f h

@@ -1,11 +1,11 @@
--- Any job without faults 2 to 7 has its text, whatever list its moves come from (rules 1.7 and 7.15): an odd
--- last number is in no move, so the list without it has the same moves and the same lines, and it goes by
--- twos, as what is read does. The job is well formed with either list, since the rules speak of moves below
--- the count alone. Assumes nothing.
+-- Any job without faults of its listed checks has its text, whatever list its moves come from (rules 1.7 and
+-- 7.15): an odd last number is in no move, so the list without it has the same moves and the same lines, and
+-- it goes by twos, as what is read does. The job is well formed with either list, since the rules speak of
+-- moves below the count alone. Assumes nothing.
 --     whole-paired     moves that go by twos are whole
 --     whole-contents   a job and its whole one say the same, and so have one text
 --     whole-written    the text of a job is the written form of its whole one
---     written-length   it has at most 41,967 bytes, and so fits into 42,000: written-fits (rule 7.6)
+--     written-length   it has at most 47,099 bytes, and so fits into 47,132: written-fits (rule 7.6)
 use mathlib.Core.Path.{_≡_, refl, sym, _∙_, ap}
 use mathlib.Core.List.{List}
 use Prim.Native.Nat.{ℕ, _+_, _*_, _≤_, _<_}
@@ -77,7 +77,7 @@ module _ (j : Numbers) where
       paired = omega (arith, whole-length (j .moves));
     }
 
-    pub written-length : length (textOf j) ≤ 41967
+    pub written-length : length (textOf j) ≤ 47099
     written-length = accepted-length (textOf j) (wholeJob j) whole-written
 
     pub written-fits : length (textOf j) ≤ textRoom

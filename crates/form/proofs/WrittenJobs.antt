@@ -1,11 +1,13 @@
--- What the text of a job without the faults 2 to 7 says is without a fault, so that it is accepted. The
--- sections are put one behind the other from the last to the first, each by the checks of its whole list.
--- Assumes nothing but that the moves have two numbers each.
+-- What the text of a job without the faults of its listed checks says is without a fault, so that it is
+-- accepted. The sections are put one behind the other from the last to the first, each by the checks of its
+-- whole list; that of the closed nodes is passed over where nothing is closed. Assumes nothing but that the
+-- moves have two numbers each.
 --     lanes-paired      lanes without the fault 2 go by twos
---     contents-sound        the contents of a job without faults are without a fault
+--     nodes-fit, lanes-few, closed-few    the counts of such a job are within their limits
+--     small-lanes, small-closed, small-moves    its numbers have a written form
+--     contents-sound    the contents of a job without faults are without a fault
 --     written-sound     its text is their written form
---     small-nodes, small-lanes, small-moves    the numbers of such a job have a written form
-use mathlib.Core.Path.{_≡_, refl}
+use mathlib.Core.Path.{_≡_, refl, sym, _∙_, subst}
 use mathlib.Core.Logic.{inl, inr}
 use mathlib.Core.List.{List, [], _∷_, _++_}
 use Prim.Native.Nat.{ℕ, _+_, _*_, _/_, _%_, _≤_, _<_}
@@ -13,23 +15,25 @@ use native.Mathlib.Decide.{ℕ-discrete}
 use native.Mathlib.Omega.{arith}
 use lib.ListN.{length, getD}
 use Rattle.hall.specs.Limits.{nodeLimit, laneLimit, carrierLimit}
-use Rattle.hall.specs.Floor.{networkOf, laneCount, lower, higher}
+use Rattle.hall.specs.Floor.{laneCount, lower, higher}
 use Rattle.hall.specs.Job.{Numbers, moveCount, startIn, goalIn}
 use Rattle.hall.specs.Job as job
 use Rattle.hall.specs.Stages.{None, ClearAt}
-use Rattle.hall.specs.Refusals.{LaneFault, no-node, no-carrier}
+use Rattle.hall.specs.Refusals.{LaneFault, no-node, ClosedFault, no-such-node, no-carrier}
 use Rattle.hall.specs.Questions.{moveChecks, orderChecks, checksQuestion}
 use Rattle.hall.proofs.Sound.{Denied, denied-checks, nodes-limit, carriers-limit, order-length}
 use Rattle.form.specs.Lines.{Small}
-use Rattle.form.specs.Sections.{Form, Content, content, sameWord, countOf}
-use Rattle.form.specs.Words.{NODES, LANES, CARRIERS, ORDER}
+use Rattle.form.specs.Sections.{Form, Content, content, sameWord, countOf, numbersOf}
+use Rattle.form.specs.Words.{NODES, LANES, CLOSED, CARRIERS, ORDER}
 use Rattle.form.specs.Contents.{first, Sound, over, stands}
 use Rattle.form.specs.Texts.{WrittenForm}
-use Rattle.form.specs.JobText.{nodesSection, lanesSection, carriersSection, orderSection, jobText}
-use Rattle.form.specs.Jobs.{pairs, singles, contentsOf, WrittenJob}
-use Rattle.form.proofs.Checks.{lanes-steady, carriers-steady, order-steady}
+use Rattle.form.specs.JobText.{nodesSection, lanesSection, closedSection, carriersSection}
+use Rattle.form.specs.JobText.{orderSection, jobText}
+use Rattle.form.specs.Jobs.{pairs, singles, closedContents, contentsOf, WrittenJob}
+use Rattle.form.proofs.Checks.{lanes-steady, closed-steady, carriers-steady, order-steady}
 use Rattle.form.proofs.Rows.{ByTwos, small-by, pairs-back, pairs-count, pairs-rows, singles-back}
 use Rattle.form.proofs.Rows.{singles-count, singles-rows, whole-section}
+use Rattle.form.proofs.FirstSections.{passed-over}
 
 -- both numbers of each pair are small, so all are
 pairs-small : (l : List ℕ) → ByTwos l
@@ -55,7 +59,7 @@ module _ (read cs : List Content) (left : Form) where
       (record { small = omega arith; fits = fits; counted = refl; passes = tt }) rest
 
   lanes-sound : (l : List ℕ) → ByTwos l → Small l → laneCount l ≤ laneLimit
-      → ((k : ℕ) → k < laneCount l → ¬ LaneFault (networkOf (countOf NODES read) l) k)
+      → ((k : ℕ) → k < laneCount l → ¬ LaneFault (countOf NODES read) l k)
       → Sound (read ++ (content LANES (laneCount l) (pairs l) ∷ [])) left cs
       → Sound read (lanesSection ∷ left) (content LANES (laneCount l) (pairs l) ∷ cs)
   lanes-sound l e small few fine rest =
@@ -65,8 +69,19 @@ module _ (read cs : List Content) (left : Form) where
       (pairs-rows l small) (omega arith) (omega arith, omega arith) n
       (λ k b. (fine k (omega arith), tt))) rest
 
+  closed-sound : (l : List ℕ) → Small l → 1 ≤ length l → length l ≤ nodeLimit
+      → ((k : ℕ) → k < length l → ¬ ClosedFault (countOf NODES read) l k)
+      → Sound (read ++ (content CLOSED (length l) (singles l) ∷ [])) left cs
+      → Sound read (closedSection ∷ left) (content CLOSED (length l) (singles l) ∷ cs)
+  closed-sound l small some few fine rest =
+      let n = singles-count l in
+      stands read (closedSection ∷ left) left closedSection (length l) (singles l) cs (first closedSection left)
+      (whole-section read closedSection (length l) (singles l) closed-steady l (singles-back l)
+      (singles-rows l small) (omega arith) (some, few) n
+      (λ k b. (fine k (omega arith), tt))) rest
+
   carriers-sound : (l : List ℕ) → ByTwos l → Small l → moveCount l ≤ carrierLimit
-      → ((i : ℕ) → i < moveCount l → ClearAt (moveChecks (networkOf (countOf NODES read) []) l) i)
+      → ((i : ℕ) → i < moveCount l → ClearAt (moveChecks (countOf NODES read) (numbersOf CLOSED read) l) i)
       → Sound (read ++ (content CARRIERS (moveCount l) (pairs l) ∷ [])) left cs
       → Sound read (carriersSection ∷ left) (content CARRIERS (moveCount l) (pairs l) ∷ cs)
   carriers-sound l e small few fine rest =
@@ -108,6 +123,11 @@ module _ (j : Numbers) (sound : None (checksQuestion j)) where
       let few : ¬ (laneLimit < length (j .network .lanes) / 2) = λ e. facts .network .lanes (inl e) in
       omega arith
 
+  pub closed-few : length (j .network .closed) ≤ nodeLimit
+  closed-few =
+      let few : ¬ (nodeLimit < length (j .network .closed)) = facts .network .closed-count in
+      omega arith
+
   pub small-lanes : Small (j .network .lanes)
   small-lanes = pairs-small (j .network .lanes) lanes-paired (λ k b. (
     node-small (j .network .nodes) (lower (j .network .lanes) k) (nodes-fit .1)
@@ -115,6 +135,11 @@ module _ (j : Numbers) (sound : None (checksQuestion j)) where
     node-small (j .network .nodes) (higher (j .network .lanes) k) (nodes-fit .1)
         (λ y. facts .network .lane k b (no-node (inr y))),
   ))
+
+  pub small-closed : Small (j .network .closed)
+  small-closed = small-by (j .network .closed) (λ k b.
+      node-small (j .network .nodes) (getD (j .network .closed) k 0) (nodes-fit .1)
+      (λ y. facts .network .closed-node k b (no-such-node y)))
 
   pub small-moves : ByTwos (j .moves) → Small (j .moves)
   small-moves paired = pairs-small (j .moves) paired (λ i b. (
@@ -128,16 +153,51 @@ module _ (j : Numbers) (sound : None (checksQuestion j)) where
       let x : ¬ (job.carriers j ≤ getD (j .order) p 0) = λ y. facts .bad-order p b (no-carrier y) in
       omega arith)
 
-  pub contents-sound : ByTwos (j .moves) → Sound [] jobText (contentsOf j)
-  unfolding countOf sameWord NODES LANES CARRIERS
-  contents-sound paired =
-      nodes-sound [] _ _ (j .network .nodes) nodes-fit
-      (lanes-sound _ _ _ (j .network .lanes) lanes-paired small-lanes lanes-few (facts .network .lane)
-      (carriers-sound _ _ _ (j .moves) paired (small-moves paired) (carriers-limit j sound)
-      (λ i b. (facts .off-floor i b, (facts .same-ends i b, tt)))
-      (order-sound _ _ [] (j .order) small-order (order-length j sound)
-      (omega (arith, order-length j sound, carriers-limit j sound))
-      (λ p b. (facts .bad-order p b, tt)) (over _ [] tt))))
+  module _ (paired : ByTwos (j .moves)) where
+    -- from the carriers on, behind sections that say how many nodes there are and which are closed, and
+    -- nothing of carriers
+    carriers-on : (read : List Content) → countOf NODES read ≡ j .network .nodes
+        → numbersOf CLOSED read ≡ j .network .closed
+        → ((c : Content) → countOf CARRIERS (read ++ (c ∷ [])) ≡ countOf CARRIERS (c ∷ []))
+        → Sound read (carriersSection ∷ orderSection ∷ [])
+        (content CARRIERS (job.carriers j) (pairs (j .moves))
+        ∷ content ORDER (length (j .order)) (singles (j .order))
+        ∷ [])
+    unfolding countOf sameWord CARRIERS
+    carriers-on read n c none =
+        let counts : countOf CARRIERS (read ++ (content CARRIERS (job.carriers j) (pairs (j .moves)) ∷ []))
+        ≡ job.carriers j = none (content CARRIERS (job.carriers j) (pairs (j .moves))) in
+        carriers-sound read _ _ (j .moves) paired (small-moves paired) (carriers-limit j sound)
+        (λ i b. rw (n, c) (facts .off-floor i b, (facts .same-ends i b, (facts .closed-end i b, tt))))
+        (order-sound _ _ [] (j .order) small-order (order-length j sound ∙ sym counts)
+        (omega (arith, order-length j sound, carriers-limit j sound))
+        (λ p b. rw counts (facts .bad-order p b, tt)) (over _ [] tt))
+
+    closed-on : (l : List ℕ) → l ≡ j .network .closed
+        → Sound
+        (content NODES (j .network .nodes) []
+        ∷ content LANES (laneCount (j .network .lanes)) (pairs (j .network .lanes))
+        ∷ [])
+        (closedSection ∷ carriersSection ∷ orderSection ∷ [])
+        (closedContents l
+        ++ (content CARRIERS (job.carriers j) (pairs (j .moves))
+        ∷ content ORDER (length (j .order)) (singles (j .order))
+        ∷ []))
+    unfolding countOf numbersOf sameWord NODES LANES CLOSED CARRIERS
+    closed-on [] e = passed-over closedSection refl (carriers-on _ refl e (λ c. refl))
+    closed-on (v ∷ l) e =
+        closed-sound _ _ _ (v ∷ l) (subst Small (sym e) small-closed) (omega arith)
+        (subst (λ (x : List ℕ). length x ≤ nodeLimit) (sym e) closed-few)
+        (subst (λ (x : List ℕ). (k : ℕ) → k < length x → ¬ ClosedFault (j .network .nodes) x k) (sym e)
+        (facts .network .closed-node))
+        (carriers-on _ refl (singles-back (v ∷ l) ∙ e) (λ c. refl))
+
+    pub contents-sound : Sound [] jobText (contentsOf j)
+    unfolding countOf sameWord NODES LANES
+    contents-sound =
+        nodes-sound [] _ _ (j .network .nodes) nodes-fit
+        (lanes-sound _ _ _ (j .network .lanes) lanes-paired small-lanes lanes-few (facts .network .lane)
+        (closed-on (j .network .closed) refl))
 
 pub written-sound : (t : List ℕ) (j : Numbers) → WrittenJob t j → WrittenForm jobText t (contentsOf j)
 written-sound t j w = record { writes = w .writes; sound = contents-sound j (w .sound) (w .paired) }

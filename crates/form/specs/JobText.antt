@@ -1,18 +1,23 @@
--- The sections of a job text (rules 7.1, 7.9 and 8.2).
---     nodesSection, lanesSection, carriersSection, orderSection    a section each, with its limits and what
---                  its entries are. The order has as many places as there are carriers
+-- The sections of a job text (rules 7.1, 7.9, 7.17 and 8.2).
+--     nodesSection, lanesSection, closedSection, carriersSection, orderSection    a section each, with its
+--                  limits and what its entries are. That of the closed nodes may be missing; where it stands,
+--                  its count is 1 or more. The order has as many places as there are carriers
 --     jobText      the form of a job text: the sections in their order
 use mathlib.Core.List.{[], _∷_}
-use mathlib.Core.Bool.{false}
+use mathlib.Core.Bool.{true, false}
 use Rattle.hall.specs.Limits.{nodeLimit, laneLimit, carrierLimit}
-use Rattle.form.specs.Sections.{Section, Form, between, like, none, lane, move, place}
-use Rattle.form.specs.Words.{NODES, LANES, CARRIERS, ORDER}
+use Rattle.form.specs.Sections.{Section, Form, between, like, none, lane, closedNode, move, place}
+use Rattle.form.specs.Words.{NODES, LANES, CLOSED, CARRIERS, ORDER}
 
 abbrev pub nodesSection : Section
 nodesSection = record { word = NODES; size = 0; optional = false; limits = between 1 nodeLimit; entry = none }
 
 abbrev pub lanesSection : Section
 lanesSection = record { word = LANES; size = 2; optional = false; limits = between 0 laneLimit; entry = lane }
+
+abbrev pub closedSection : Section
+closedSection =
+    record { word = CLOSED; size = 1; optional = true; limits = between 1 nodeLimit; entry = closedNode }
 
 abbrev pub carriersSection : Section
 carriersSection =
@@ -23,4 +28,4 @@ orderSection =
     record { word = ORDER; size = 1; optional = false; limits = like CARRIERS carrierLimit; entry = place }
 
 abbrev pub jobText : Form
-jobText = nodesSection ∷ lanesSection ∷ carriersSection ∷ orderSection ∷ []
+jobText = nodesSection ∷ lanesSection ∷ closedSection ∷ carriersSection ∷ orderSection ∷ []

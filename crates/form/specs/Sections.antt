@@ -3,7 +3,8 @@
 -- add a section is to add to these, with its word (Words.antt) and the kind of its entries (`Entry`).
 --     Limits         which counts fit: from a least to a greatest one; or the count of an earlier section, at
 --                    most a greatest one
---     Entry          what the entries of a section are: there are none, or lanes, moves, places of the order
+--     Entry          what the entries of a section are: there are none, or lanes, closed nodes, moves, places
+--                    of the order
 --     Section        its word; how many numbers a line has, none for a section without lines; whether it may
 --                    be missing; the limits of its count; and what its entries are
 --     Form           the sections of a text, in their order
@@ -29,6 +30,7 @@ pub data Limits : Type 0 where
 pub data Entry : Type 0 where
   none : Entry
   lane : Entry
+  closedNode : Entry
   move : Entry
   place : Entry
 

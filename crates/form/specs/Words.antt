@@ -1,4 +1,4 @@
--- The words of the sections, by their letters' bytes (rule 7.1).
+-- The words of the sections, by their letters' bytes (rules 7.1 and 7.17).
 use mathlib.Core.List.{List, [], _∷_}
 use Prim.Native.Nat.{ℕ}
 
@@ -7,6 +7,9 @@ NODES = 78 ∷ 79 ∷ 68 ∷ 69 ∷ 83 ∷ []
 
 unfoldable pub LANES : List ℕ
 LANES = 76 ∷ 65 ∷ 78 ∷ 69 ∷ 83 ∷ []
+
+unfoldable pub CLOSED : List ℕ
+CLOSED = 67 ∷ 76 ∷ 79 ∷ 83 ∷ 69 ∷ 68 ∷ []
 
 unfoldable pub CARRIERS : List ℕ
 CARRIERS = 67 ∷ 65 ∷ 82 ∷ 82 ∷ 73 ∷ 69 ∷ 82 ∷ 83 ∷ []

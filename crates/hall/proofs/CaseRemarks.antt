@@ -11,7 +11,7 @@ use Prim.Native.Nat.{ℕ, suc, _+_, _<_}
 use native.Mathlib.Omega.{arith}
 use lib.ListN.{length, getD}
 use lib.IntN.{pos}
-use Rattle.hall.specs.Floor.{Lane, Network, networkOf, floor}
+use Rattle.hall.specs.Floor.{Lane, Network, networkOf, Open, floor}
 use Rattle.hall.specs.Job.{Numbers, carriers, start, goal}
 use Rattle.hall.specs.Stages.{None}
 use Rattle.hall.specs.Questions.{jobQuestion}
@@ -23,8 +23,8 @@ use Rattle.hall.specs.Case.{cases, line4}
 use Rattle.hall.proofs.Walks.{true-distance}
 use Rattle.hall.proofs.Labels.{labels-are}
 use Rattle.hall.proofs.PlanLaws.{tables-unique, pair-same}
-use Rattle.hall.proofs.Test.{Test, eq?, not?, lt?, _and?_, map?, all?}
-use Rattle.hall.proofs.FloorTests.{lane?}
+use Rattle.hall.proofs.Test.{Test, eq?, not?, _and?_, map?, all?}
+use Rattle.hall.proofs.FloorTests.{lane?, open?}
 use Rattle.hall.proofs.JobTests.{Labelled, labelled?, guessed, guessed-true}
 use Rattle.hall.proofs.Cases.{no-case, all-cases}
 
@@ -65,17 +65,17 @@ back = 3 ∷ 2 ∷ 1 ∷ 0 ∷ []
 -- the list is a path of d lanes from s to g
 abbrev path? : (N : Network) (s g d : ℕ) (l : List ℕ) → Test (PathOf (floor N) s g d l)
 path? N s g d l =
-    map? {A = (length l ≡ d + 1) × ((getD l 0 0 ≡ s) × ((getD l d 0 ≡ g) × (((k : ℕ) → k < suc d → getD l k 0 < N .nodes) × ((k : ℕ) → k < d → Lane (N .lanes) (getD l k 0) (getD l (k + 1) 0)))))}
+    map? {A = (length l ≡ d + 1) × ((getD l 0 0 ≡ s) × ((getD l d 0 ≡ g) × (((k : ℕ) → k < suc d → Open N (getD l k 0)) × ((k : ℕ) → k < d → Lane (N .lanes) (getD l k 0) (getD l (k + 1) 0)))))}
     (λ h. record { size = h .0; begins = h .1 .0; ends = h .1 .1 .0; nodes = λ k m. h .1 .1 .1 .0 k (omega arith); joins = h .1 .1 .1 .1 })
     (λ p. (p .size, (p .begins, (p .ends, ((λ k m. p .nodes k (omega arith)), p .joins)))))
-    (eq? (length l) (d + 1) and? eq? (getD l 0 0) s and? eq? (getD l d 0) g and? all? (λ k. lt? (getD l k 0) (N .nodes)) (suc d) and? all? (λ k. lane? (N .lanes) (getD l k 0) (getD l (k + 1) 0)) d)
+    (eq? (length l) (d + 1) and? eq? (getD l 0 0) s and? eq? (getD l d 0) g and? all? (λ k. open? N (getD l k 0)) (suc d) and? all? (λ k. lane? (N .lanes) (getD l k 0) (getD l (k + 1) 0)) d)
 
 -- the two are shortest paths of its moves
 pub P4-paths : ShortestPath (floor (job 3 .network)) 0 3 there × ShortestPath (floor (job 3 .network)) 3 0 back
 unfolding cases
 P4-paths = (
-  record { d = 3; short = true-distance (labels-are (labels 0 (omega arith) .0 (omega arith)) 3 (omega arith)) (λ e. omega arith); is-path = path? (networkOf 4 line4) 0 3 3 there .sound tt },
-  record { d = 3; short = true-distance (labels-are (labels 1 (omega arith) .0 (omega arith)) 0 (omega arith)) (λ e. omega arith); is-path = path? (networkOf 4 line4) 3 0 3 back .sound tt },
+  record { d = 3; short = true-distance (labels-are (labels 0 (omega arith) .0 (open? (job 3 .network) 0 .sound tt)) 3 (open? (job 3 .network) 3 .sound tt)) (λ e. omega arith); is-path = path? (networkOf 4 line4 []) 0 3 3 there .sound tt },
+  record { d = 3; short = true-distance (labels-are (labels 1 (omega arith) .0 (open? (job 3 .network) 3 .sound tt)) 0 (open? (job 3 .network) 0 .sound tt)) (λ e. omega arith); is-path = path? (networkOf 4 line4 []) 3 0 3 back .sound tt },
 )
   where
     labels : Labelled (job 3)

@@ -1,8 +1,9 @@
--- The cases P1 to P11 and those of shared ends hold, the outcomes that the easy errors would give do not
--- (rule 11.13), and where several faults hold of a job the order of the checks decides (rule 8.22): each is
--- one table, by one test of a job with an outcome. A line of a table costs no proof of its own. Assumes
+-- The cases P1 to P11, of shared ends and of closed nodes hold, the outcomes that easy errors would give do
+-- not (rule 11.13), and where several faults hold of a job the order of the checks decides (rule 8.22): each
+-- is one table, by one test of a job with an outcome. A line of a table costs no proof of its own. Assumes
 -- nothing.
---     cases           P1 to P11; shared-cases carriers that share an end (specs/Case.antt)
+--     cases           P1 to P11; shared-cases carriers that share an end; closed-cases halls with closed
+--                     nodes (specs/Case.antt)
 --     wrong-cases     a job with an outcome that a planner with that error may give: for P8, P4 and P7 the
 --                     one that the rule names
 --     refusal-cases   jobs at a limit, and jobs with several faults and the first of them
@@ -11,7 +12,8 @@ use Prim.Native.Nat.{ℕ, _<_}
 use lib.ListN.{length, getD, replicate}
 use Rattle.hall.specs.Ticks.{total}
 use Rattle.hall.specs.Said.{refused}
-use Rattle.hall.specs.Case.{planned, Case, Holds, case, cases, shared-cases, line2, line4, line5, six-lanes}
+use Rattle.hall.specs.Case.{planned, Case, Holds, case, case-closed, cases, shared-cases, closed-cases}
+use Rattle.hall.specs.Case.{line2, line4, line5, six-lanes, two-rows}
 use Rattle.hall.proofs.Test.{Test, not?, _then?_, all?}
 use Rattle.hall.proofs.JobTests.{Labelled, labelled?, gives?}
 
@@ -38,6 +40,12 @@ pub all-shared-cases : (k : ℕ) → k < length shared-cases → Holds (getD sha
 unfolding shared-cases total
 all-shared-cases k h = all? (λ k. right? (getD shared-cases k no-case)) (length shared-cases) .sound tt k h .1
 
+-- ---- closed nodes (rule 11.15)
+
+pub all-closed-cases : (k : ℕ) → k < length closed-cases → Holds (getD closed-cases k no-case)
+unfolding closed-cases total
+all-closed-cases k h = all? (λ k. right? (getD closed-cases k no-case)) (length closed-cases) .sound tt k h .1
+
 -- ---- errors that come easily (rule 11.13)
 
 unfoldable pub wrong-cases : List Case
@@ -61,6 +69,10 @@ wrong-cases =
     ∷ case 4 line4 (0 ∷ 1 ∷ 2 ∷ 1 ∷ []) (0 ∷ 1 ∷ []) (planned (0 ∷ 0 ∷ []) 2)
     -- and the refusal 6 that such a job had before moves could share an end
     ∷ case 4 line4 (0 ∷ 1 ∷ 0 ∷ 2 ∷ []) (0 ∷ 1 ∷ []) (refused 6 1)
+    -- a walk over a closed node, and a start and a goal that are closed
+    ∷ case-closed 6 two-rows (1 ∷ []) (0 ∷ 2 ∷ []) (0 ∷ []) (planned (0 ∷ []) 2)
+    ∷ case-closed 2 line2 (0 ∷ []) (0 ∷ 1 ∷ []) (0 ∷ []) (planned (0 ∷ []) 1)
+    ∷ case-closed 2 line2 (1 ∷ []) (0 ∷ 1 ∷ []) (0 ∷ []) (refused 8 0)
     ∷ []
 
 pub no-wrong-case : (k : ℕ) → k < length wrong-cases → ¬ Holds (getD wrong-cases k no-case)
@@ -85,6 +97,19 @@ refusal-cases =
     -- lane `1 0` gives 3, before a start that is no node; a lane that stands twice
     ∷ case 2 (1 ∷ 0 ∷ []) (0 ∷ 2 ∷ []) (0 ∷ []) (refused 3 0)
     ∷ case 2 (0 ∷ 1 ∷ 0 ∷ 1 ∷ []) (0 ∷ 1 ∷ []) (0 ∷ []) (refused 3 1)
+    -- 1,025 closed nodes give 2 at place 4: behind a lane list of odd length, before 65 carriers
+    ∷ case-closed 2 (0 ∷ []) (replicate 1025 0) [] [] (refused 2 1)
+    ∷ case-closed 1 [] (replicate 1025 0) (replicate 130 0) [] (refused 2 4)
+    -- a closed node that is none, or that stands twice, gives 12: behind 3, before 4
+    ∷ case-closed 2 (1 ∷ 0 ∷ []) (2 ∷ []) [] [] (refused 3 0)
+    ∷ case-closed 2 line2 (2 ∷ []) (2 ∷ 0 ∷ []) (0 ∷ []) (refused 12 0)
+    ∷ case-closed 2 line2 (1 ∷ 1 ∷ []) [] [] (refused 12 1)
+    -- a closed start or goal gives 13: behind 4 and 5 of its move, before a later move and the order
+    ∷ case-closed 2 line2 (0 ∷ []) (0 ∷ 1 ∷ []) (0 ∷ []) (refused 13 0)
+    ∷ case-closed 3 line2 (1 ∷ []) (0 ∷ 2 ∷ 0 ∷ 1 ∷ []) (0 ∷ 0 ∷ []) (refused 13 1)
+    ∷ case-closed 2 line2 (0 ∷ []) (0 ∷ 2 ∷ []) (0 ∷ []) (refused 4 0)
+    ∷ case-closed 2 line2 (0 ∷ []) (0 ∷ 0 ∷ []) (0 ∷ []) (refused 5 0)
+    ∷ case-closed 2 line2 (0 ∷ []) (0 ∷ 1 ∷ 2 ∷ 2 ∷ []) (0 ∷ 1 ∷ []) (refused 13 0)
     -- of one move 4 comes before 5; of two moves the earlier one decides, whatever its number; that two moves
     -- have one start is no fault
     ∷ case 2 line2 (2 ∷ 2 ∷ []) (0 ∷ []) (refused 4 0)

@@ -12,9 +12,10 @@ use Rattle.hall.specs.Stages.{First}
 use Rattle.hall.specs.Questions.{ends, walkChecks, eachWalk, networkQuestion, checksQuestion, jobQuestion, planning}
 use Rattle.hall.specs.Questions.{moveEnds, moveQuestion, houseOfMove, listOfMove}
 use Rattle.hall.specs.Questions.{askedQuestion, houseOfJob, listOfJob}
-use Rattle.hall.proofs.Test.{decided?}
+use Rattle.hall.proofs.Test.{dec, decided?}
+use Rattle.hall.proofs.FloorTests.{closed?}
 use Rattle.hall.proofs.StageTests.{Tested, each?, tested-decided}
-use Rattle.hall.proofs.FaultTests.{nodes-count?, lanes-count?, each-lane?, checks?, job?}
+use Rattle.hall.proofs.FaultTests.{nodes-count?, lanes-count?, closed-count?, each-lane?, each-closed?, checks?, job?}
 use Rattle.hall.proofs.Stages.{Decided, decided-none, decided-more, settled-at}
 use Rattle.hall.proofs.Compose.{decided-append}
 use Rattle.hall.proofs.Places.{asked-here, asked-settled, decided-place}
@@ -32,11 +33,11 @@ walks? : (N : Network) (moves : List ℕ) → Tested (eachWalk N moves)
 walks? N moves =
     each? (moveCount moves) (walkChecks N moves) (λ i. (decided? (no-walk? N (startIn moves i) (goalIn moves i)), tt))
 
--- the listed checks 2 to 7
+-- the listed checks
 pub checks-decided : (j : Numbers) → Decided (checksQuestion j)
 checks-decided j = tested-decided (checksQuestion j) (checks? j)
 
--- 2 to 8
+-- with 8
 pub job-decided : (j : Numbers) → Decided (jobQuestion j)
 job-decided j = tested-decided (jobQuestion j) (job? j (walks? (j .network) (j .moves)))
 
@@ -57,16 +58,26 @@ list-of-job-decided j c unfit? = decided-append (asked-decided j c) (decided-mor
 
 pub network-decided : (N : Network) → Decided (networkQuestion N)
 network-decided N =
-    tested-decided (networkQuestion N)
-    (nodes-count? (N .nodes), (lanes-count? (length (N .lanes)), (each-lane? N, tt)))
+    tested-decided (networkQuestion N) (
+      nodes-count? (N .nodes),
+      (
+        lanes-count? (length (N .lanes)),
+        (
+          closed-count? (length (N .closed)),
+          (each-lane? (N .nodes) (N .lanes), (each-closed? (N .nodes) (N .closed), tt)),
+        ),
+      ),
+    )
 
 module _ (N : Network) (s g : ℕ) where
   pub move-ends-decided : Decided (moveEnds N s g)
   move-ends-decided =
       decided-append (network-decided N)
-      (decided-place (ends N (λ i. s) (λ i. g)) 0
-      (settled-at (ends N (λ i. s) (λ i. g)) 0
-      (dec-or (decLe (N .nodes) s) (decLe (N .nodes) g), (ℕ-discrete s g, tt))))
+      (decided-place (ends (N .nodes) (N .closed) (λ i. s) (λ i. g)) 0
+      (settled-at (ends (N .nodes) (N .closed) (λ i. s) (λ i. g)) 0 (
+        dec-or (decLe (N .nodes) s) (decLe (N .nodes) g),
+        (ℕ-discrete s g, (dec-or (dec (closed? (N .closed) s)) (dec (closed? (N .closed) g)), tt)),
+      )))
 
   pub move-decided : Decided (moveQuestion N s g)
   move-decided =

@@ -7,10 +7,10 @@ use mathlib.Core.Path.{_≡_, refl, subst}
 use mathlib.Core.Logic.{_⊎_, inl, inr}
 use mathlib.Core.List.{List}
 use Prim.Native.Nat.{ℕ, zero, suc, _≤_, _<_}
-use native.Mathlib.Decide.{ℕ-discrete, decLt, map-dec}
+use native.Mathlib.Decide.{ℕ-discrete, map-dec}
 use native.Mathlib.Omega.{arith}
 use Rattle.hall.specs.Limits.{nodeLimit}
-use Rattle.hall.specs.Floor.{Floor, Walk, here, step, Dist, NoWalk, DistanceIs, no-walk, distance, Lane, Network, floor}
+use Rattle.hall.specs.Floor.{Floor, Walk, here, step, Dist, NoWalk, DistanceIs, no-walk, distance, Lane, Network, Open, floor}
 use Rattle.hall.proofs.Walks.{begins-on-node}
 use Rattle.hall.proofs.Pigeon.{dist-below}
 use Rattle.hall.proofs.Test.{dec}
@@ -66,9 +66,16 @@ module _ {F : Floor} (n : ℕ) (finite : (v : ℕ) → F .Node v → v < n) (nod
 pub lane? : (lanes : List ℕ) (a b : ℕ) → Dec (Lane lanes a b)
 lane? lanes a b = dec (tests.lane? lanes a b)
 
+-- a node of the floor is numbered, and whether it is open can be seen
+pub node-below : (N : Network) (v : ℕ) → Open N v → v < N .nodes
+node-below N v h = h .numbered
+
+pub open? : (N : Network) (v : ℕ) → Dec (Open N v)
+open? N v = dec (tests.open? N v)
+
 module _ (N : Network) where
   pub joined-or-not : (a b : ℕ) → ((d : ℕ) × Dist (floor N) a b d) ⊎ NoWalk (floor N) a b
-  joined-or-not = distance-or-none (N .nodes) (λ v h. h) (λ v. decLt v (N .nodes)) (lane? (N .lanes))
+  joined-or-not = distance-or-none (N .nodes) (node-below N) (open? N) (lane? (N .lanes))
 
   pub no-walk? : (a b : ℕ) → Dec (NoWalk (floor N) a b)
   no-walk? a b = cases (joined-or-not a b)
@@ -79,4 +86,4 @@ module _ (N : Network) where
 
   -- on at most 1,024 nodes there is a number that stands for the distance
   pub distance-exists : N .nodes ≤ nodeLimit → (a b : ℕ) → (r : ℕ) × DistanceIs (floor N) a b r
-  distance-exists = number-of-distance (N .nodes) (λ v h. h) (λ v. decLt v (N .nodes)) (lane? (N .lanes))
+  distance-exists = number-of-distance (N .nodes) (node-below N) (open? N) (lane? (N .lanes))

@@ -148,7 +148,7 @@ plan-safe-listed j t tick cost listed plan path shortest =
     demand-three (lanes-symmetric (j .network)) (carriers j) (start j) (goal j) t (plan .true-distances) (plan .reached) (j .order) (listed .below) tick
     (plan .ticks) path shortest (place-listed j listed)
 
--- of a job without the faults 2 to 7
+-- of a job without faults of the listed checks
 pub plan-safe : (j : Numbers) (t : Tables) (tick : ℕ → ℕ) (cost : ℕ) → None (checksQuestion j) → Plan j t tick cost
     → (path : ℕ → List ℕ) → ((i : ℕ) → i < carriers j → ShortestPath (floor (j .network)) (start j i) (goal j i) (path i))
     → Demand3 (floor (j .network)) (carriers j) (start j) (goal j) t (j .order) tick path

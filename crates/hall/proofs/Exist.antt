@@ -1,5 +1,5 @@
 -- Every job without faults has a plan, so nothing is promised of the empty set. The distances exist on at
--- most 1,024 nodes, and each own distance is one since fault 8 does not hold; of the faults 2 to 7 the proof
+-- most 1,024 nodes, and each own distance is one since fault 8 does not hold; of the listed checks the proof
 -- uses the node count and the listing alone (Sound.antt). It can be decided whether a tick is permitted
 -- against the carriers placed before, and one tick after their latest goal tick is permitted, so there is a
 -- smallest permitted tick. The ticks are then made place by place: since no carrier stands twice in the
@@ -153,7 +153,7 @@ module _ (j : Numbers) (listed : Listing j) (limit : j .network .nodes ≤ nodeL
       tick : ℕ → ℕ
       tick = ticks-exist t (j .order) (listed .once) .0
 
--- of a job without the faults 2 to 8
+-- of a job without faults
 pub plan-exists : (j : Numbers) → None (jobQuestion j) → Planned j
 plan-exists j none =
     let sound = checks-of-none j none in

@@ -1,19 +1,41 @@
 -- Computed tests of labels on the floor of a network, and labels to test. The labels are guessed by sweeping
--- the lanes once for each node; nothing is proved of the guess, since labels that pass are the distances
--- (`labels-are`). Assumes nothing.
+-- the lanes between open nodes once for each node; nothing is proved of the guess, since labels that pass are
+-- the distances (`labels-are`). Assumes nothing.
 use mathlib.Core.Path.{_≡_}
 use mathlib.Core.Logic.{_⊎_, inl, inr, _≢_}
 use mathlib.Core.List.{List, [], _∷_}
+use mathlib.Core.Bool.{cond}
 use Prim.Native.Nat.{ℕ, zero, suc, _+_, _≤_, _<_, min}
-use native.Mathlib.Decide.{decLt}
 use native.Mathlib.Omega.{arith}
-use lib.ListN.{getD, set, replicate}
-use Rattle.hall.specs.Floor.{NoWalk, DistanceIs, no-walk, distance, laneCount, lower, higher, Lane, Network, floor}
+use lib.ListN.{length, getD, set, replicate}
+use Rattle.hall.specs.Floor.{NoWalk, DistanceIs, no-walk, distance, laneCount, lower, higher, Lane}
+use Rattle.hall.specs.Floor.{Network, Closed, Open, floor}
 use Rattle.hall.proofs.Walks.{begins-on-node, ends-on-node}
 use Rattle.hall.proofs.Labels.{Before, Labels}
-use Rattle.hall.proofs.Test.{Test, Some, le?, lt?, eq?, not?, _and?_, _or?_, _implies?_, map?, all?, any?}
+use Rattle.hall.proofs.Test.{Test, dec, Some, le?, lt?, eq?, not?, _and?_, _or?_, _implies?_, map?, all?, any?}
+
+-- ---- open nodes
+
+abbrev pub closed? : (closed : List ℕ) (v : ℕ) → Test (Closed closed v)
+closed? closed v =
+    map? {A = Some (λ k. getD closed k 0 ≡ v) (length closed)}
+    (λ h. record { k = h .k; inside = h .below; is = h .is }) (λ c. record { k = c .k; below = c .inside; is = c .is })
+    (any? (λ k. eq? (getD closed k 0) v) (length closed))
+
+abbrev pub open? : (N : Network) (v : ℕ) → Test (Open N v)
+open? N v =
+    map? {A = (v < N .nodes) × (¬ Closed (N .closed) v)}
+    (λ h. record { numbered = h .0; not-closed = h .1 }) (λ o. (o .numbered, o .not-closed))
+    (lt? v (N .nodes) and? not? (closed? (N .closed) v))
 
 -- ---- the guess
+
+abbrev pub openLanes : (closed lanes : List ℕ) → List ℕ
+openLanes closed [] = []
+openLanes closed (a ∷ []) = []
+openLanes closed (a ∷ b ∷ rest) =
+    cond (closed? closed a .pass) (openLanes closed rest)
+    (cond (closed? closed b .pass) (openLanes closed rest) (a ∷ b ∷ openLanes closed rest))
 
 abbrev pub sweep : List ℕ → List ℕ → List ℕ
 sweep [] l = l
@@ -27,7 +49,7 @@ sweeps zero lanes l = l
 sweeps (suc n) lanes l = sweeps n lanes (sweep lanes l)
 
 abbrev pub guess : (N : Network) (s : ℕ) → List ℕ
-guess N s = sweeps (N .nodes) (N .lanes) (set (replicate (N .nodes) 65535) s 0)
+guess N s = sweeps (N .nodes) (openLanes (N .closed) (N .lanes)) (set (replicate (N .nodes) 65535) s 0)
 
 -- ---- the tests
 
@@ -42,9 +64,9 @@ lane? lanes a b =
 module _ (N : Network) (s : ℕ) (label : ℕ → ℕ) where
   abbrev pub before? : (v : ℕ) → Test (Before (floor N) label v)
   before? v =
-      map? {A = Some (λ u. Lane (N .lanes) u v × (label u + 1 ≡ label v)) (N .nodes)}
-      (λ h. record { node = h .k; is-node = h .below; lane = h .is .0; less = h .is .1 }) (λ b. record { k = b .node; below = b .is-node; is = (b .lane, b .less) })
-      (any? (λ u. lane? (N .lanes) u v and? eq? (label u + 1) (label v)) (N .nodes))
+      map? {A = Some (λ u. Open N u × (Lane (N .lanes) u v × (label u + 1 ≡ label v))) (N .nodes)}
+      (λ h. record { node = h .k; is-node = h .is .0; lane = h .is .1 .0; less = h .is .1 .1 }) (λ b. record { k = b .node; below = b .is-node .numbered; is = (b .is-node, (b .lane, b .less)) })
+      (any? (λ u. open? N u and? lane? (N .lanes) u v and? eq? (label u + 1) (label v)) (N .nodes))
 
   abbrev pub Near : ℕ → ℕ → Type 0
   Near a b = Lane (N .lanes) a b → label a ≢ 65535 → (label b ≢ 65535) × (label b ≤ label a + 1)
@@ -57,31 +79,31 @@ module _ (N : Network) (s : ℕ) (label : ℕ → ℕ) where
 
   abbrev pub labels? : Test (Labels (floor N) s label)
   labels? =
-      map? {A = (s < N .nodes) × ((label s ≡ 0) × (((a : ℕ) → a < N .nodes → (b : ℕ) → b < N .nodes → Near a b) × ((v : ℕ) → v < N .nodes → Labelled-node v)))}
-      (λ h. record { on-node = h .0; source = h .1 .0; near = λ a b l m. h .1 .1 .0 a l b m; small = λ v l m. h .1 .1 .1 v l m .0; back = λ v l m. h .1 .1 .1 v l m .1 })
-      (λ l. (l .on-node, (l .source, ((λ a h b m. l .near a b h m), λ v h m. (l .small v h m, l .back v h m)))))
-      (lt? s (N .nodes) and? eq? (label s) 0 and? all? (λ a. all? (λ b. near? a b) (N .nodes)) (N .nodes) and? all? (λ v. not? (eq? (label v) 65535) implies? (le? (label v) 1023 and? (eq? v s or? before? v))) (N .nodes))
+      map? {A = Open N s × ((label s ≡ 0) × (((a : ℕ) → a < N .nodes → Open N a → (b : ℕ) → b < N .nodes → Open N b → Near a b) × ((v : ℕ) → v < N .nodes → Open N v → Labelled-node v)))}
+      (λ h. record { on-node = h .0; source = h .1 .0; near = λ a b l m. h .1 .1 .0 a (l .numbered) l b (m .numbered) m; small = λ v l m. h .1 .1 .1 v (l .numbered) l m .0; back = λ v l m. h .1 .1 .1 v (l .numbered) l m .1 })
+      (λ l. (l .on-node, (l .source, ((λ a x h b y m. l .near a b h m), λ v x h m. (l .small v h m, l .back v h m)))))
+      (open? N s and? eq? (label s) 0 and? all? (λ a. open? N a implies? all? (λ b. open? N b implies? near? a b) (N .nodes)) (N .nodes) and? all? (λ v. open? N v implies? not? (eq? (label v) 65535) implies? (le? (label v) 1023 and? (eq? v s or? before? v))) (N .nodes))
 
 -- ---- no walk
 
-module _ (N : Network) (s g r : ℕ) (is : s < N .nodes → g < N .nodes → DistanceIs (floor N) s g r) where
-  no-walk-if : s < N .nodes → DistanceIs (floor N) s g r → r ≡ 65535 → NoWalk (floor N) s g
-  no-walk-if h (no-walk e f) x = f
-  no-walk-if h (distance small d) x = absurd (let y : ⊥ = omega arith in y)
+module _ (N : Network) (s g r : ℕ) (is : Open N s → Open N g → DistanceIs (floor N) s g r) where
+  no-walk-if : DistanceIs (floor N) s g r → r ≡ 65535 → NoWalk (floor N) s g
+  no-walk-if (no-walk e f) x = f
+  no-walk-if (distance small d) x = absurd (let y : ⊥ = omega arith in y)
 
   mark-if : DistanceIs (floor N) s g r → NoWalk (floor N) s g → r ≡ 65535
   mark-if (no-walk e f) x = e
   mark-if (distance small d) x = absurd (x r (d .walk))
 
-  pub no-walk-is : (N .nodes ≤ s) ⊎ ((N .nodes ≤ g) ⊎ (r ≡ 65535)) → NoWalk (floor N) s g
-  no-walk-is (inl h) k w = let l : s < N .nodes = begins-on-node w in omega arith
-  no-walk-is (inr (inl h)) k w = let l : g < N .nodes = ends-on-node w in omega arith
-  no-walk-is (inr (inr e)) k w = no-walk-if (begins-on-node w) (is (begins-on-node w) (ends-on-node w)) e k w
+  pub no-walk-is : (¬ Open N s) ⊎ ((¬ Open N g) ⊎ (r ≡ 65535)) → NoWalk (floor N) s g
+  no-walk-is (inl h) k w = h (begins-on-node w)
+  no-walk-is (inr (inl h)) k w = h (ends-on-node w)
+  no-walk-is (inr (inr e)) k w = no-walk-if (is (begins-on-node w) (ends-on-node w)) e k w
 
-  pub is-no-walk : NoWalk (floor N) s g → (N .nodes ≤ s) ⊎ ((N .nodes ≤ g) ⊎ (r ≡ 65535))
-  is-no-walk f = cases (decLt s (N .nodes)) (decLt g (N .nodes))
+  pub is-no-walk : NoWalk (floor N) s g → (¬ Open N s) ⊎ ((¬ Open N g) ⊎ (r ≡ 65535))
+  is-no-walk f = cases (dec (open? N s)) (dec (open? N g))
     where
-      cases : Dec (s < N .nodes) → Dec (g < N .nodes) → (N .nodes ≤ s) ⊎ ((N .nodes ≤ g) ⊎ (r ≡ 65535))
-      cases (no h) d = inl (omega arith)
-      cases (yes h) (no l) = inr (inl (omega arith))
+      cases : Dec (Open N s) → Dec (Open N g) → (¬ Open N s) ⊎ ((¬ Open N g) ⊎ (r ≡ 65535))
+      cases (no h) d = inl h
+      cases (yes h) (no l) = inr (inl l)
       cases (yes h) (yes l) = inr (inr (mark-if (is h l) f))

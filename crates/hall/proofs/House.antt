@@ -7,7 +7,6 @@ use mathlib.Core.Path.{_≡_, sym, _∙_, subst}
 use mathlib.Core.List.{List, [], _∷_}
 use Prim.Native.Nat.{ℕ, zero, suc, _+_, _-_, _≤_, _<_}
 use native.Mathlib.Nat.{le-antisymm, not-suc-le-zero}
-use native.Mathlib.Decide.{decLt}
 use native.Mathlib.Numerals.{add-one}
 use native.Mathlib.Omega.{arith}
 use lib.ListN.{getD}
@@ -18,7 +17,7 @@ use Rattle.hall.proofs.Walks.{begins-on-node}
 use Rattle.hall.proofs.Lists.{path-one, path-cons}
 use Rattle.hall.proofs.Paths.{goal-distance}
 use Rattle.hall.proofs.Lowest.{dec-and, lowest-of}
-use Rattle.hall.proofs.Decide.{walk?, lane?}
+use Rattle.hall.proofs.Decide.{walk?, lane?, node-below, open?}
 
 -- ---- at most one
 
@@ -86,4 +85,4 @@ module _ {F : Floor} where
 
 -- of a move on a network whose goal can be reached
 pub house-exists : (N : Network) {s g d : ℕ} → Dist (floor N) s g d → (l : List ℕ) × HousePath (floor N) s g d l
-house-exists N {d = d} = house-on-floor (N .nodes) (λ v h. h) (λ v. decLt v (N .nodes)) (lane? (N .lanes)) d
+house-exists N {d = d} = house-on-floor (N .nodes) (node-below N) (open? N) (lane? (N .lanes)) d

@@ -4,9 +4,9 @@
 -- definitions give. Assumes nothing.
 use mathlib.Core.Path.{_≡_, _∙_, ap}
 use mathlib.Core.Logic.{_⊎_, inr}
-use Prim.Native.Nat.{ℕ, _+_, _≤_, _<_}
+use Prim.Native.Nat.{ℕ, _+_, _<_}
 use lib.ListN.{length, getD}
-use Rattle.hall.specs.Floor.{DistanceIs, NoWalk, floor}
+use Rattle.hall.specs.Floor.{DistanceIs, NoWalk, Open, floor}
 use Rattle.hall.specs.Job.{Numbers, carriers, start, goal, EndsOn}
 use Rattle.hall.specs.Stages.{None}
 use Rattle.hall.specs.Said.{accepted, refused}
@@ -18,11 +18,11 @@ use Rattle.hall.proofs.Labels.{Labels, labels-are}
 use Rattle.hall.proofs.Ticks.{total-same}
 use Rattle.hall.proofs.Sound.{checks-of-none, walks-of-none, ends-on, entry-below}
 use Rattle.hall.proofs.PlanLaws.{SameTables, tables-unique, ticks-same}
-use Rattle.hall.proofs.Test.{Test, le?, lt?, eq?, _and?_, _or?_, _implies?_, map?, all?}
+use Rattle.hall.proofs.Test.{Test, lt?, eq?, not?, _and?_, _or?_, _implies?_, map?, all?}
 use Rattle.hall.proofs.TickTests.{start-ticks?}
 use Rattle.hall.proofs.StageTests.{Tested, TestedAll, each-beyond, none?, first?}
 use Rattle.hall.proofs.FaultTests.{job?}
-use Rattle.hall.proofs.FloorTests.{guess, labels?, no-walk-is, is-no-walk}
+use Rattle.hall.proofs.FloorTests.{open?, guess, labels?, no-walk-is, is-no-walk}
 
 -- ---- distances
 
@@ -37,12 +37,12 @@ module _ (j : Numbers) where
     gg = λ i k. label (goal j i) (goal j k);
   }
 
-  -- the labels from a node are its distances
+  -- the labels from an open node are its distances
   abbrev pub LabelledFrom : ℕ → Type 0
-  LabelledFrom s = s < j .network .nodes → Labels (floor (j .network)) s (label s)
+  LabelledFrom s = Open (j .network) s → Labels (floor (j .network)) s (label s)
 
   abbrev pub labelled-from? : (s : ℕ) → Test (LabelledFrom s)
-  labelled-from? s = lt? s (j .network .nodes) implies? labels? (j .network) s (label s)
+  labelled-from? s = open? (j .network) s implies? labels? (j .network) s (label s)
 
   abbrev pub Labelled : Type 0
   Labelled = (i : ℕ) → i < carriers j → LabelledFrom (start j i) × LabelledFrom (goal j i)
@@ -53,7 +53,7 @@ module _ (j : Numbers) where
   -- ---- faults
 
   module _ (true-labels : Labelled) where
-    pub own-is : (i : ℕ) → i < carriers j → start j i < j .network .nodes → goal j i < j .network .nodes →
+    pub own-is : (i : ℕ) → i < carriers j → Open (j .network) (start j i) → Open (j .network) (goal j i) →
         DistanceIs (floor (j .network)) (start j i) (goal j i) (own guessed i)
     own-is i h s g = labels-are (true-labels i h .0 s) (goal j i) g
 
@@ -61,7 +61,7 @@ module _ (j : Numbers) where
     abbrev pub Unreached : ℕ → Type 0
     Unreached i =
         (i < carriers j)
-        × ((j .network .nodes ≤ start j i) ⊎ ((j .network .nodes ≤ goal j i) ⊎ (own guessed i ≡ 65535)))
+        × ((¬ Open (j .network) (start j i)) ⊎ ((¬ Open (j .network) (goal j i)) ⊎ (own guessed i ≡ 65535)))
 
     abbrev pub unreached? : (i : ℕ) → Test ((i < carriers j) × NoWalk (floor (j .network)) (start j i) (goal j i))
     unreached? i =
@@ -69,7 +69,7 @@ module _ (j : Numbers) where
         (λ h. (h .0, no-walk-is (j .network) (start j i) (goal j i) (own guessed i) (own-is i (h .0)) (h .1)))
         (λ h. (h .0, is-no-walk (j .network) (start j i) (goal j i) (own guessed i) (own-is i (h .0)) (h .1)))
         (lt? i (carriers j)
-        and? (le? (j .network .nodes) (start j i) or? le? (j .network .nodes) (goal j i) or? eq? (own guessed i) 65535))
+        and? (not? (open? (j .network) (start j i)) or? not? (open? (j .network) (goal j i)) or? eq? (own guessed i) 65535))
 
     abbrev pub walks? : Tested (eachWalk (j .network) (j .moves))
     walks? = record {

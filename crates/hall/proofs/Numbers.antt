@@ -14,7 +14,7 @@ use lib.ListN.{getD}
 use Rattle.hall.specs.declared.Fault.{Fault}
 use Rattle.hall.specs.declared.Fault.the-variants.{Malformed, BadCount, BadLane, OffFloor, SameEnds}
 use Rattle.hall.specs.declared.Fault.the-variants.{BadOrder, Unreachable, ShortTable, NoCarrier}
-use Rattle.hall.specs.declared.Fault.the-variants.{NotShortest}
+use Rattle.hall.specs.declared.Fault.the-variants.{NotShortest, BadClosed, ClosedEnd}
 use Rattle.hall.specs.declared.Refusal.{Refusal}
 use Rattle.hall.specs.Numbers.{numberOf}
 use Rattle.hall.specs.Said.{Said, accepted, refused, saidRefusal}
@@ -35,6 +35,8 @@ listed =
     ∷ ShortTable
     ∷ NoCarrier
     ∷ NotShortest
+    ∷ BadClosed
+    ∷ ClosedEnd
     ∷ []
 
 abbrev faultOf : ℕ → Fault
@@ -51,6 +53,8 @@ back Unreachable = refl
 back ShortTable = refl
 back NoCarrier = refl
 back NotShortest = refl
+back BadClosed = refl
+back ClosedEnd = refl
 
 pub number-one-fault : (f g : Fault) → numberOf f ≡ numberOf g → f ≡ g
 number-one-fault f g e = sym (back f) ∙ ap faultOf e ∙ back g

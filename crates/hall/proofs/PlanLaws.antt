@@ -2,8 +2,8 @@
 -- rule 5.6. The tables are distances, which are unique; the ticks ask the tables only for distances between
 -- the order's carriers, so start ticks by one of two equal tables are start ticks by the other, and these are
 -- unique; the cost is the sum of equal goal ticks. The limits are those of Ticks.antt, since a carrier's own
--- distance is at most 1,023. A job without the faults 2 to 7 is such a job; of its moves nothing is used
--- here. Assumes nothing.
+-- distance is at most 1,023. A job without faults of the listed checks is such a job; of its moves nothing is
+-- used here. Assumes nothing.
 --     SameTables    two tables agree for the carrier numbers below k
 --     SamePlan      the tables, the start ticks and the cost of two plans agree
 use mathlib.Core.Path.{_≡_, sym, _∙_, subst}
@@ -108,7 +108,7 @@ module _ (j : Numbers) (listed : Listing j) where
           subst (λ (x : ℕ). (tick x ≤ 64512) × (goalTick t tick x ≤ 65535)) (f .is)
           (tick-limit t (j .order) tick (plan .ticks) small (omega (arith, listed .size, listed .few)) (f .place) (f .inside))
 
--- ---- of a job without the faults 2 to 7
+-- ---- of a job without faults of the listed checks
 
 pub plan-unique : (j : Numbers) (sound : None (checksQuestion j)) (t u : Tables) (tick tick′ : ℕ → ℕ) (cost cost′ : ℕ) → Plan j t tick cost → Plan j u tick′ cost′
     → SamePlan (carriers j) t tick cost u tick′ cost′

@@ -18,6 +18,7 @@ use Rattle.hall.proofs.Ints.{up, down, up-pos, down-pos, up-neg, down-n
 use Rattle.hall.proofs.Walks.{join, reverse, true-distance, distance-small, lanes-symmetric}
 use Rattle.hall.proofs.Pigeon.{dist-below}
 use Rattle.hall.proofs.Rules.{lead-i-law, lead-j-law, gap-law}
+use Rattle.hall.proofs.Decide.{node-below}
 use Rattle.hall.proofs.Safe.{bounded}
 
 pub record Joined6 (p : Pair) : Type 0 where
@@ -52,7 +53,7 @@ module _ {F : Floor} (both-ways : Symmetric F) (n : ℕ) (finite : (v : ℕ) →
 -- and so of two moves on a network
 pub network-joined : (N : Network) → N .nodes ≤ nodeLimit → {si gi sj gj : ℕ} {p : Pair}
     → DistancesOf (floor N) si gi sj gj p → p .ss ≢ noWalkMark → Joined6 p
-network-joined N limit six = all-joined (lanes-symmetric N) (N .nodes) (λ v h. h) limit six
+network-joined N limit six = all-joined (lanes-symmetric N) (N .nodes) (node-below N) limit six
 
 -- ---- the ranges
 

@@ -1,9 +1,9 @@
--- What a job without the faults 2 to 7 is known to be: each fact is the denial of one check, read off the
--- list of stages. The laws of plans use of it that there are at most 64 carriers and that the order lists
--- each carrier number once (`Listing`); that a start is unlike its goal (5) they use nowhere, and of two
--- moves together there is nothing to use. That every carrier has a place is the counting law `all-listed`.
--- Assumes nothing.
---     Denied j     none of the checks 2 to 7 holds of the job, check by check
+-- What a job without the faults of `checksQuestion` (2 to 5, 7, 12 and 13) is known to be: each fact is the
+-- denial of one check, read off the list of stages. The laws of plans use of it that there are at most 64
+-- carriers and that the order lists each carrier number once (`Listing`); that a start is unlike its goal (5)
+-- they use nowhere, and of two moves together there is nothing to use. That every carrier has a place is the
+-- counting law `all-listed`. Assumes nothing.
+--     Denied j     none of these checks holds of the job, check by check
 --     Listing j    the order lists the carrier numbers by place, each once, and there are at most 64
 use mathlib.Core.Path.{_≡_, sym}
 use mathlib.Core.Logic.{_⊎_, inl, inr, _≢_}
@@ -16,8 +16,9 @@ use Rattle.hall.specs.Limits.{nodeLimit, laneLimit, carrierLimit}
 use Rattle.hall.specs.Floor.{NoWalk, Network, laneCount, floor}
 use Rattle.hall.specs.Job.{Numbers, carriers, start, goal, at-place, EndsOn}
 use Rattle.hall.specs.Stages.{FirstOf, here, later, FirstAt, FirstStage, First, None}
-use Rattle.hall.specs.Refusals.{LaneFault, OffFloor-at, BadOrder-at, no-carrier, stands-earlier}
-use Rattle.hall.specs.Questions.{laneChecks, moveChecks, orderChecks, walkChecks, eachWalk}
+use Rattle.hall.specs.Refusals.{LaneFault, ClosedFault, OffFloor-at, ClosedEnd-at}
+use Rattle.hall.specs.Refusals.{BadOrder-at, no-carrier, stands-earlier}
+use Rattle.hall.specs.Questions.{laneChecks, closedChecks, moveChecks, orderChecks, walkChecks, eachWalk}
 use Rattle.hall.specs.Questions.{networkQuestion, checksQuestion, jobQuestion}
 use Rattle.hall.proofs.Stages.{none-excludes}
 use Rattle.hall.proofs.Compose.{none-split, first-split}
@@ -28,49 +29,69 @@ use Rattle.hall.proofs.Pigeon.{Listed, all-listed}
 pub not-above : (m n : ℕ) → ¬ (m < n) → n ≤ m
 not-above m n h = omega arith
 
--- ---- a network without the faults 2 and 3
+-- ---- a network without the faults 2, 3 and 12
 
 pub record DeniedNetwork (N : Network) : Type 0 where
   pub nodes : ¬ ((N .nodes < 1) ⊎ (nodeLimit < N .nodes))
   pub lanes : ¬ ((laneLimit < length (N .lanes) / 2) ⊎ (length (N .lanes) % 2 ≡ 1))
-  pub lane : (k : ℕ) → k < laneCount (N .lanes) → ¬ LaneFault N k
+  pub closed-count : ¬ (nodeLimit < length (N .closed))
+  pub lane : (k : ℕ) → k < laneCount (N .lanes) → ¬ LaneFault (N .nodes) (N .lanes) k
+  pub closed-node : (k : ℕ) → k < length (N .closed) → ¬ ClosedFault (N .nodes) (N .closed) k
 
 pub network-denied : (N : Network) → None (networkQuestion N) → DeniedNetwork N
 network-denied N none =
     let nodes = none-asked none in
     let lanes = none-asked (nodes .1) in
-    let lane = none-each (laneChecks N) (lanes .1) in
-    record { nodes = nodes .0; lanes = lanes .0; lane = λ k l. lane .0 .clear k l .0 }
+    let closed = none-asked (lanes .1) in
+    let lane = none-each (laneChecks (N .nodes) (N .lanes)) (closed .1) in
+    let entry = none-each (closedChecks (N .nodes) (N .closed)) (lane .1) in
+    record {
+      nodes = nodes .0;
+      lanes = lanes .0;
+      closed-count = closed .0;
+      lane = λ k l. lane .0 .clear k l .0;
+      closed-node = λ k l. entry .0 .clear k l .0;
+    }
 
--- ---- a job without the faults 2 to 7
+-- ---- a job without the faults of its listed checks
 
 pub record Denied (j : Numbers) : Type 0 where
   pub network : DeniedNetwork (j .network)
   pub carriers-count : ¬ (carrierLimit < carriers j)
   pub order-count : ¬ (length (j .order) ≢ carriers j)
-  pub off-floor : (i : ℕ) → i < carriers j → ¬ OffFloor-at (j .network) (start j i) (goal j i)
+  pub off-floor : (i : ℕ) → i < carriers j → ¬ OffFloor-at (j .network .nodes) (start j i) (goal j i)
   pub same-ends : (i : ℕ) → i < carriers j → ¬ (start j i ≡ goal j i)
+  pub closed-end : (i : ℕ) → i < carriers j → ¬ ClosedEnd-at (j .network .closed) (start j i) (goal j i)
   pub bad-order : (p : ℕ) → p < length (j .order) → ¬ BadOrder-at (carriers j) (j .order) p
 
 pub denied-checks : (j : Numbers) → None (checksQuestion j) → Denied j
 denied-checks j none =
     let nodes = none-asked none in
     let lanes = none-asked (nodes .1) in
-    let few = none-asked (lanes .1) in
+    let closed = none-asked (lanes .1) in
+    let few = none-asked (closed .1) in
     let order = none-asked (few .1) in
-    let lane = none-each (laneChecks (j .network)) (order .1) in
-    let move = none-each (moveChecks (j .network) (j .moves)) (lane .1) in
+    let lane = none-each (laneChecks (j .network .nodes) (j .network .lanes)) (order .1) in
+    let shut = none-each (closedChecks (j .network .nodes) (j .network .closed)) (lane .1) in
+    let move = none-each (moveChecks (j .network .nodes) (j .network .closed) (j .moves)) (shut .1) in
     let entry = none-each (orderChecks (carriers j) (j .order)) (move .1) in
     record {
-      network = record { nodes = nodes .0; lanes = lanes .0; lane = λ k l. lane .0 .clear k l .0 };
+      network = record {
+        nodes = nodes .0;
+        lanes = lanes .0;
+        closed-count = closed .0;
+        lane = λ k l. lane .0 .clear k l .0;
+        closed-node = λ k l. shut .0 .clear k l .0;
+      };
       carriers-count = few .0;
       order-count = order .0;
       off-floor = λ i l. move .0 .clear i l .0;
       same-ends = λ i l. move .0 .clear i l .1 .0;
+      closed-end = λ i l. move .0 .clear i l .1 .1 .0;
       bad-order = λ p l. entry .0 .clear p l .0;
     }
 
--- the checks 2 to 7 are asked before 8
+-- the listed checks are asked before 8
 pub checks-of-none : (j : Numbers) → None (jobQuestion j) → None (checksQuestion j)
 checks-of-none j none = none-split (checksQuestion j) (eachWalk (j .network) (j .moves) ∷ []) none .0
 
@@ -81,7 +102,7 @@ walks-of-none j none i l =
     let walks = none-split (checksQuestion j) (eachWalk (j .network) (j .moves) ∷ []) none .1 in
     none-each (walkChecks (j .network) (j .moves)) walks .0 .clear i l .0
 
--- where nothing of 2 to 7 holds, a first fault is 8, of a carrier without a walk
+-- where none of the listed checks holds, a first fault is 8, of a carrier without a walk
 pub only-eight : (j : Numbers) → None (checksQuestion j) → {n p : ℕ} → First (jobQuestion j) n p →
     (n ≡ 8) × ((p < carriers j) × NoWalk (floor (j .network)) (start j p) (goal j p))
 only-eight j sound {n} {p} h = cases (first-split (checksQuestion j) (eachWalk (j .network) (j .moves) ∷ []) h)
@@ -133,11 +154,17 @@ module _ (j : Numbers) (sound : None (checksQuestion j)) where
       cases (yes e) = e
       cases (no e) = absurd (facts .order-count e)
 
-  -- every start and every goal is a node
+  -- every start and every goal is an open node
   pub ends-on : EndsOn (floor (j .network)) (j .moves)
   ends-on = record {
-    starts = λ i l. not-above (j .network .nodes) (suc (start j i)) (λ x. facts .off-floor i l (inl (omega arith)));
-    goals = λ i l. not-above (j .network .nodes) (suc (goal j i)) (λ x. facts .off-floor i l (inr (omega arith)));
+    starts = λ i l. record {
+      numbered = not-above (j .network .nodes) (suc (start j i)) (λ x. facts .off-floor i l (inl (omega arith)));
+      not-closed = λ c. facts .closed-end i l (inl c);
+    };
+    goals = λ i l. record {
+      numbered = not-above (j .network .nodes) (suc (goal j i)) (λ x. facts .off-floor i l (inr (omega arith)));
+      not-closed = λ c. facts .closed-end i l (inr c);
+    };
   }
 
   -- an order entry is a carrier number

@@ -1,6 +1,6 @@
 -- What the definitions give of every job from numbers, whatever the numbers are, in one statement: exactly
--- one fault of 2 to 8 is the first, or there is none and exactly one plan, within the limits, which keeps all
--- carriers apart whatever shortest paths they take. So the definitions promise neither nothing nor two
+-- one fault of its checks is the first, or there is none and exactly one plan, within the limits, which keeps
+-- all carriers apart whatever shortest paths they take. So the definitions promise neither nothing nor two
 -- things; that the planner answers so is the promise of its functions. Complete.antt decides between the two,
 -- Exist.antt makes the plan, PlanLaws.antt says that any other agrees with it for every carrier, and
 -- Demand.antt that it is safe. Assumes nothing.

@@ -1,8 +1,8 @@
--- A job is well formed exactly if none of the checks 2 to 7 holds of it. From no fault: each part is the
+-- A job is well formed exactly if none of its listed checks holds of it. From no fault: each part is the
 -- denial of one check; the checks hold each lane only against the one before it, and that any later lane
--- exceeds any earlier one is an induction over the later, since exceeding is transitive; that every carrier
--- has a place is the counting law behind `place-of`. To no fault: each stage is clear by one part. Assumes
--- nothing.
+-- exceeds any earlier one is an induction over the later, since exceeding is transitive, and so of the closed
+-- nodes; that every carrier has a place is the counting law behind `place-of`. To no fault: each stage is
+-- clear by one part. Assumes nothing.
 use mathlib.Core.Path.{_≡_, sym, subst}
 use mathlib.Core.Logic.{_↔_, _⊎_, inl, inr, _≢_}
 use mathlib.Core.List.{List}
@@ -10,14 +10,15 @@ use Prim.Native.Nat.{ℕ, zero, suc, _/_, _%_, _<_}
 use native.Mathlib.Nat.{not-suc-le-zero}
 use native.Mathlib.Decide.{decLt}
 use native.Mathlib.Omega.{arith}
-use lib.ListN.{length}
+use lib.ListN.{length, getD}
 use Rattle.hall.specs.Limits.{nodeLimit, laneLimit}
 use Rattle.hall.specs.Floor.{Network, laneCount, lower, higher, Lane}
 use Rattle.hall.specs.Job.{Numbers, carriers, start, goal}
 use Rattle.hall.specs.Refusals.{Exceeds, by-lower, by-higher, LaneFault, no-node, not-below, not-rising}
-use Rattle.hall.specs.Refusals.{OffFloor-at, BadOrder-at, no-carrier, stands-earlier}
+use Rattle.hall.specs.Refusals.{ClosedFault, no-such-node, not-higher, OffFloor-at, ClosedEnd-at}
+use Rattle.hall.specs.Refusals.{BadOrder-at, no-carrier, stands-earlier}
 use Rattle.hall.specs.Stages.{None}
-use Rattle.hall.specs.Questions.{laneChecks, moveChecks, orderChecks, checksQuestion}
+use Rattle.hall.specs.Questions.{laneChecks, closedChecks, moveChecks, orderChecks, checksQuestion}
 use Rattle.hall.specs.WellFormed.{WellFormedNetwork, WellFormed}
 use Rattle.hall.proofs.Test.{dec}
 use Rattle.hall.proofs.FaultTests.{exceeds?}
@@ -47,6 +48,15 @@ all-rising lanes count next k (suc l) h m = cases (all-rising lanes count next k
     cases before (yes x) = exceeds-trans (next l m) (before x (omega arith))
     cases before (no x) = let e : l ≡ k = omega arith in subst (Exceeds lanes (suc l)) e (next l m)
 
+-- so of numbers
+pub all-higher : (l : List ℕ) (count : ℕ) → ((k : ℕ) → suc k < count → getD l k 0 < getD l (suc k) 0) → (k m : ℕ) → k < m → m < count → getD l k 0 < getD l m 0
+all-higher l count next k zero h x = absurd (not-suc-le-zero h)
+all-higher l count next k (suc m) h x = cases (all-higher l count next k m) (decLt k m)
+  where
+    cases : (k < m → m < count → getD l k 0 < getD l m 0) → Dec (k < m) → getD l k 0 < getD l (suc m) 0
+    cases before (yes y) = omega (arith, next m x, before y (omega arith))
+    cases before (no y) = let e : m ≡ k = omega arith in subst (λ (i : ℕ). getD l i 0 < getD l (suc m) 0) e (next m x)
+
 -- ---- no fault, so well formed
 
 module _ (N : Network) (denied : DeniedNetwork N) where
@@ -56,6 +66,11 @@ module _ (N : Network) (denied : DeniedNetwork N) where
       cases : Dec (Exceeds (N .lanes) (suc k) k) → Exceeds (N .lanes) (suc k) k
       cases (yes e) = e
       cases (no e) = absurd (denied .lane (suc k) h (not-rising {j = k} (omega arith) e))
+
+  next-higher : (k : ℕ) → suc k < length (N .closed) → getD (N .closed) k 0 < getD (N .closed) (suc k) 0
+  next-higher k h =
+      not-above (getD (N .closed) (suc k) 0) (suc (getD (N .closed) k 0))
+      (λ x. denied .closed-node (suc k) h (not-higher k (omega arith) (omega arith)))
 
   pub well-formed-network : WellFormedNetwork N
   well-formed-network = record {
@@ -69,6 +84,9 @@ module _ (N : Network) (denied : DeniedNetwork N) where
       not-above (N .nodes) (suc (higher (N .lanes) k)) (λ x. denied .lane k h (no-node (inr (omega arith)))),
     );
     rising = all-rising (N .lanes) (laneCount (N .lanes)) next-rises;
+    closed-count = not-above nodeLimit (length (N .closed)) (denied .closed-count);
+    closed-node = λ k h. not-above (N .nodes) (suc (getD (N .closed) k 0)) (λ x. denied .closed-node k h (no-such-node (omega arith)));
+    closed-rising = all-higher (N .closed) (length (N .closed)) next-higher;
   }
     where
       odd : length (N .lanes) % 2 ≢ 1
@@ -101,19 +119,30 @@ module _ (N : Network) (w : WellFormedNetwork N) where
   no-lanes-fault (inl h) = omega (arith, w .lane-count)
   no-lanes-fault (inr h) = omega (arith, w .lane-count)
 
-  no-lane-fault : (k : ℕ) → k < laneCount (N .lanes) → ¬ LaneFault N k
+  no-lane-fault : (k : ℕ) → k < laneCount (N .lanes) → ¬ LaneFault (N .nodes) (N .lanes) k
   no-lane-fault k h (no-node (inl x)) = omega (arith, w .lane k h)
   no-lane-fault k h (no-node (inr x)) = omega (arith, w .lane k h)
   no-lane-fault k h (not-below x) = omega (arith, w .lane k h)
   no-lane-fault k h (not-rising {j = i} e x) = x (w .rising i k (omega arith) h)
 
-  each-lane-passed : Passed (laneChecks N) (laneCount (N .lanes))
+  each-lane-passed : Passed (laneChecks (N .nodes) (N .lanes)) (laneCount (N .lanes))
   each-lane-passed = record { clear = λ k l. (no-lane-fault k l, tt) }
 
+  no-closed-fault : (k : ℕ) → k < length (N .closed) → ¬ ClosedFault (N .nodes) (N .closed) k
+  no-closed-fault k h (no-such-node x) = omega (arith, w .closed-node k h)
+  no-closed-fault k h (not-higher i e x) = omega (arith, w .closed-rising i k (omega arith) h)
+
+  each-closed-passed : Passed (closedChecks (N .nodes) (N .closed)) (length (N .closed))
+  each-closed-passed = record { clear = λ k l. (no-closed-fault k l, tt) }
+
 module _ (j : Numbers) (w : WellFormed j) where
-  no-off-floor : (i : ℕ) → i < carriers j → ¬ OffFloor-at (j .network) (start j i) (goal j i)
-  no-off-floor i h (inl x) = omega (arith, w .ends-on .starts i h)
-  no-off-floor i h (inr x) = omega (arith, w .ends-on .goals i h)
+  no-off-floor : (i : ℕ) → i < carriers j → ¬ OffFloor-at (j .network .nodes) (start j i) (goal j i)
+  no-off-floor i h (inl x) = omega (arith, w .ends-on .starts i h .numbered)
+  no-off-floor i h (inr x) = omega (arith, w .ends-on .goals i h .numbered)
+
+  no-closed-end : (i : ℕ) → i < carriers j → ¬ ClosedEnd-at (j .network .closed) (start j i) (goal j i)
+  no-closed-end i h (inl x) = w .ends-on .starts i h .not-closed x
+  no-closed-end i h (inr x) = w .ends-on .goals i h .not-closed x
 
   no-bad-order : (p : ℕ) → p < length (j .order) → ¬ BadOrder-at (carriers j) (j .order) p
   no-bad-order p h (no-carrier x) = omega (arith, w .entry p h)
@@ -123,15 +152,17 @@ module _ (j : Numbers) (w : WellFormed j) where
   no-check =
       asked-clear (no-nodes-fault (j .network) (w .network-is))
       (asked-clear (no-lanes-fault (j .network) (w .network-is))
+      (asked-clear (λ l. omega (arith, w .network-is .closed-count))
       (asked-clear (λ l. omega (arith, w .carrier-count))
       (asked-clear (λ d. d (w .order-count))
-      (none-more (each-none (laneChecks (j .network)) (each-lane-passed (j .network) (w .network-is)))
-      (none-more (each-none (moveChecks (j .network) (j .moves)) moves-passed)
+      (none-more (each-none (laneChecks (j .network .nodes) (j .network .lanes)) (each-lane-passed (j .network) (w .network-is)))
+      (none-more (each-none (closedChecks (j .network .nodes) (j .network .closed)) (each-closed-passed (j .network) (w .network-is)))
+      (none-more (each-none (moveChecks (j .network .nodes) (j .network .closed) (j .moves)) moves-passed)
       (none-more (each-none (orderChecks (carriers j) (j .order)) order-passed)
-      none-at-all))))))
+      none-at-all))))))))
     where
-      moves-passed : Passed (moveChecks (j .network) (j .moves)) (carriers j)
-      moves-passed = record { clear = λ i l. (no-off-floor i l, (w .ends-differ i l, tt)) }
+      moves-passed : Passed (moveChecks (j .network .nodes) (j .network .closed) (j .moves)) (carriers j)
+      moves-passed = record { clear = λ i l. (no-off-floor i l, (w .ends-differ i l, (no-closed-end i l, tt))) }
 
       order-passed : Passed (orderChecks (carriers j) (j .order)) (length (j .order))
       order-passed = record { clear = λ p l. (no-bad-order p l, tt) }
@@ -159,6 +190,6 @@ module _ (N : Network) (w : WellFormedNetwork N) where
       cases h (inl e) = (omega arith, omega arith, λ x. omega arith)
       cases h (inr e) = (omega arith, omega arith, λ x. omega arith)
 
--- the checks 2 to 7 are the rules' words
+-- the listed checks are the rules' words
 pub well-formed-iff : (j : Numbers) → None (checksQuestion j) ↔ WellFormed j
 well-formed-iff j = (well-formed j, no-check j)

@@ -1,8 +1,8 @@
--- What writing a job is refused with (rule 8.30): 9, or one of the listed checks 2 to 7, and never 8. So a
+-- What writing a job is refused with (rule 8.30): 9, or one of the listed checks of a job, and never 8. So a
 -- job is written exactly if the output is long enough and the job is well formed, and one that planning
 -- refuses with 8 is written. Assumes nothing.
 --     writing-decided     of every job, writing has no fault or one first fault
---     writing-numbers     it is one of 2 to 9, and neither 6 nor 8
+--     writing-numbers     it is one of 2 to 5, 7, 9, 12 and 13
 --     eight-not-asked     no job is refused with 8
 --     written-iff         there is no fault exactly if the output is long enough and the job is well formed
 --     odd-lanes-refused   a lane list of odd length is refused with 2 at place 1
@@ -29,14 +29,19 @@ module _ {Short : Type 0} (j : Numbers) where
   pub writing-decided : Dec Short → Decided (writing Short j)
   writing-decided short? = decided-more (asked-settled short?) (checks-decided j)
 
-  pub writing-numbers : {n p : ℕ} → First (writing Short j) n p → (2 ≤ n) × (n ≤ 9) × (n ≢ 6) × (n ≢ 8)
-  writing-numbers h =
-      let within = first-among (λ n. (2 ≤ n) × (n ≤ 9)) (omega arith) h in
-      let other = first-among (λ n. (n ≢ 6) × (n ≢ 8)) (omega arith) h in
-      (within .0, within .1, other .0, other .1)
+  pub writing-numbers : {n p : ℕ} → First (writing Short j) n p →
+      (2 ≤ n) × (n ≤ 13) × (n ≢ 6) × (n ≢ 8) × (n ≢ 10) × (n ≢ 11)
+  writing-numbers h = (
+    first-among (λ n. 2 ≤ n) (omega arith) h,
+    first-among (λ n. n ≤ 13) (omega arith) h,
+    first-among (λ n. n ≢ 6) (omega arith) h,
+    first-among (λ n. n ≢ 8) (omega arith) h,
+    first-among (λ n. n ≢ 10) (omega arith) h,
+    first-among (λ n. n ≢ 11) (omega arith) h,
+  )
 
   pub eight-not-asked : {p : ℕ} → ¬ First (writing Short j) 8 p
-  eight-not-asked h = writing-numbers h .3 refl
+  eight-not-asked h = first-among (λ n. n ≢ 8) (omega arith) h refl
 
   pub written-iff : None (writing Short j) ↔ ((¬ Short) × WellFormed j)
   written-iff = (

@@ -1,6 +1,6 @@
--- The cases P1 to P11 (rules 11.1 to 11.11) as one table, and those of carriers that share an end (rule
--- 11.14) as another. A line is the whole outcome of its job: `outcome-unique` (proofs/Outcomes.antt) says
--- that a job has no second one.
+-- The cases P1 to P11 (rules 11.1 to 11.11) as one table, those of carriers that share an end (rule 11.14)
+-- as another, and the first seven of halls with closed nodes (rule 11.15) as a third. A line is the whole outcome of
+-- its job: `outcome-unique` (proofs/Outcomes.antt) says that a job has no second one.
 --     Schedule    start ticks by carrier number, and the cost
 --     Outcome     what is said of a job: a schedule, or a refusal with its number and place
 --     planned     a schedule as an outcome
@@ -10,10 +10,15 @@
 --                 fault
 --     Holds       the same of a case
 --     line2, ..   the lanes of a line of so many nodes; six-lanes four nodes with all six lanes between them
---     case        a case from its numbers: nodes, lanes, moves, order, outcome
+--     two-rows    six nodes in two rows of three: 0 1 2 above 3 4 5
+--     crossing    seven nodes: 1 is joined to 0, 2, 4 and 5, 3 to 0 and 2, and 6 to 4 and 5
+--     case-closed a case from its numbers: nodes, lanes, closed nodes, moves, order, outcome
+--     case        the same without closed nodes
 --     cases       P1 to P11, line by line. Where the rules name no network (no carriers) it is line 5; where
 --                 they name no cost it is the sum of the goal ticks
 --     shared-cases    carriers from one lift, into one chute, or both
+--     closed-cases    a floor plate is taken up: the way round it, no way, and a plate that is in no one's
+--                     way
 use mathlib.Core.Path.{_≡_}
 use mathlib.Core.List.{List, [], _∷_}
 use Prim.Native.Nat.{ℕ}
@@ -65,8 +70,18 @@ line5 = 0 ∷ 1 ∷ 1 ∷ 2 ∷ 2 ∷ 3 ∷ 3 ∷ 4 ∷ []
 abbrev pub six-lanes : List ℕ
 six-lanes = 0 ∷ 1 ∷ 0 ∷ 2 ∷ 0 ∷ 3 ∷ 1 ∷ 2 ∷ 1 ∷ 3 ∷ 2 ∷ 3 ∷ []
 
-abbrev pub case : ℕ → List ℕ → List ℕ → List ℕ → Outcome → Case
-case n lanes moves order o = record { job = jobOf (networkOf n lanes) moves order; outcome = o }
+abbrev pub two-rows : List ℕ
+two-rows = 0 ∷ 1 ∷ 0 ∷ 3 ∷ 1 ∷ 2 ∷ 1 ∷ 4 ∷ 2 ∷ 5 ∷ 3 ∷ 4 ∷ 4 ∷ 5 ∷ []
+
+abbrev pub crossing : List ℕ
+crossing = 0 ∷ 1 ∷ 0 ∷ 3 ∷ 1 ∷ 2 ∷ 1 ∷ 4 ∷ 1 ∷ 5 ∷ 2 ∷ 3 ∷ 4 ∷ 6 ∷ 5 ∷ 6 ∷ []
+
+abbrev pub case-closed : ℕ → (lanes closed moves order : List ℕ) → Outcome → Case
+case-closed n lanes closed moves order o =
+    record { job = jobOf (networkOf n lanes closed) moves order; outcome = o }
+
+abbrev pub case : ℕ → (lanes moves order : List ℕ) → Outcome → Case
+case n lanes = case-closed n lanes []
 
 unfoldable pub cases : List Case
 cases =
@@ -108,4 +123,19 @@ shared-cases =
     ∷ case 4 line4 (0 ∷ 1 ∷ 2 ∷ 1 ∷ []) (0 ∷ 1 ∷ []) (planned (0 ∷ 1 ∷ []) 3)
     -- a train, and one against it
     ∷ case 5 line5 (0 ∷ 4 ∷ 0 ∷ 4 ∷ 4 ∷ 0 ∷ []) (0 ∷ 1 ∷ 2 ∷ []) (planned (0 ∷ 1 ∷ 6 ∷ []) 19)
+    ∷ []
+
+unfoldable pub closed-cases : List Case
+closed-cases =
+    -- two against each other, all plates down; one plate up, and both go round it; the whole column up
+    case 6 two-rows (0 ∷ 2 ∷ 2 ∷ 0 ∷ []) (0 ∷ 1 ∷ []) (planned (0 ∷ 3 ∷ []) 7)
+    ∷ case-closed 6 two-rows (1 ∷ []) (0 ∷ 2 ∷ 2 ∷ 0 ∷ []) (0 ∷ 1 ∷ []) (planned (0 ∷ 5 ∷ []) 13)
+    ∷ case-closed 6 two-rows (1 ∷ 4 ∷ []) (0 ∷ 2 ∷ 2 ∷ 0 ∷ []) (0 ∷ 1 ∷ []) (refused 8 0)
+    -- a plate up that is on no shortest path
+    ∷ case-closed 6 two-rows (4 ∷ []) (0 ∷ 2 ∷ 2 ∷ 0 ∷ []) (0 ∷ 1 ∷ []) (planned (0 ∷ 3 ∷ []) 7)
+    -- two who might meet on a node; that node closed, and no walk joins their starts any more
+    ∷ case 7 crossing (0 ∷ 2 ∷ 4 ∷ 5 ∷ []) (0 ∷ 1 ∷ []) (planned (0 ∷ 1 ∷ []) 5)
+    ∷ case-closed 7 crossing (1 ∷ []) (0 ∷ 2 ∷ 4 ∷ 5 ∷ []) (0 ∷ 1 ∷ []) (planned (0 ∷ 0 ∷ []) 4)
+    -- every node closed, and no carrier
+    ∷ case-closed 2 line2 (0 ∷ 1 ∷ []) [] [] (planned [] 0)
     ∷ []

@@ -1,7 +1,7 @@
--- Networks, floors, walks and distances (rules 2.1 to 2.6). Nothing here names a search.
+-- Networks, floors, walks and distances (rules 2.1 to 2.8). Nothing here names a search.
 --     Floor               which numbers are nodes, and which two numbers a lane joins. `Joined` is over all
 --                         numbers, nodes or not: it is a walk that stands on nodes. Every definition of walks
---                         and paths speaks of a floor, so that a floor with closed nodes needs no others
+--                         and paths speaks of a floor
 --     Symmetric F         lanes run both ways: what joins a to b joins b to a. That a lane joins two
 --                         different nodes is a check's (`LaneFault`, Refusals.antt)
 --     Walk F a b n        a walk of n lanes from a to b. Each of its n + 1 numbers is a node, that of a walk
@@ -13,13 +13,15 @@
 --     laneCount           a lane list has two numbers a lane
 --     lower, higher       the first and the second number of lane k
 --     Lane lanes a b      a lane of the list joins a and b, whichever of them stands first
---     Network             a node count and a lane list
+--     Network             a node count, a lane list and a list of closed nodes
 --     networkOf           the network of lent numbers; the one place where a network is put together
---     nodesOnly           a network of which only the node count is looked at
---     floor N             the floor of a network: nodes are numbered from 0, and its lanes join them
+--     Closed closed v     the number v stands in a list of closed nodes, at the place k
+--     Open N v            v is an open node of a network: nodes are numbered from 0, and it is not closed
+--     floor N             the floor of a network: its nodes are the open ones, and its lanes join them. A
+--                         lane to a closed node is in no walk, since a walk stands on both its ends
 use mathlib.Core.Path.{_≡_}
 use mathlib.Core.Logic.{_⊎_}
-use mathlib.Core.List.{List, []}
+use mathlib.Core.List.{List}
 use Prim.Native.Nat.{ℕ, zero, suc, _+_, _*_, _/_, _≤_, _<_}
 use lib.ListN.{length, getD}
 use Rattle.hall.specs.Limits.{distanceLimit, noWalkMark}
@@ -67,12 +69,19 @@ pub record Lane (lanes : List ℕ) (a b : ℕ) : Type 0 where
 pub record Network : Type 0 where
   pub nodes : ℕ
   pub lanes : List ℕ
+  pub closed : List ℕ
 
-abbrev pub networkOf : ℕ → List ℕ → Network
-networkOf nodes lanes = record { nodes = nodes; lanes = lanes }
+abbrev pub networkOf : ℕ → (lanes closed : List ℕ) → Network
+networkOf nodes lanes closed = record { nodes = nodes; lanes = lanes; closed = closed }
 
-abbrev pub nodesOnly : ℕ → Network
-nodesOnly nodes = networkOf nodes []
+pub record Closed (closed : List ℕ) (v : ℕ) : Type 0 where
+  pub k : ℕ
+  pub inside : k < length closed
+  pub is : getD closed k 0 ≡ v
+
+pub record Open (N : Network) (v : ℕ) : Type 0 where
+  pub numbered : v < N .nodes
+  pub not-closed : ¬ Closed (N .closed) v
 
 abbrev pub floor : Network → Floor
-floor N = record { Node = λ v. v < N .nodes; Joined = Lane (N .lanes) }
+floor N = record { Node = Open N; Joined = Lane (N .lanes) }

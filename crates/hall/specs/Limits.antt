@@ -1,7 +1,8 @@
 -- The limits of a job and the least lengths that follow from them, each with its one name (rules 1.2, 2.6,
 -- 5.6 and 9.1). The constants of the type `Job` are the same numbers in code: the promise of `Job::largest`
 -- ties the first three to these, and the promise of each function that goes by one of the others ties that.
---     nodeLimit       a hall has at most 1,024 nodes; a list with a place for each node has this least length
+--     nodeLimit       a hall has at most 1,024 nodes, and at most so many are closed; a list with a place for
+--                     each node has this least length
 --     laneLimit       at most 4,096 lanes
 --     carrierLimit    at most 64 carriers
 --     laneNumbers     two numbers for each lane that a hall can have
@@ -9,16 +10,16 @@
 --     blockLength     a place for every two carriers
 --     tableLength     three such blocks: the distance table
 --     goalBlock       where the third of them begins
---     textRoom        so many bytes hold the text of any job without faults 2 to 7 (rule 7.6); the least
---                     length of the output of writing
+--     textRoom        so many bytes hold the text of any job without faults of the listed checks (rule 7.6);
+--                     the least length of the output of writing
 --     distanceLimit   no distance is greater: a shortest path goes over no node twice
 --     startLimit      no start tick is greater: 63 carriers before it, each gone 1,024 ticks later at most
 --     goalLimit       no goal tick is greater: a start tick and a distance
 --     costLimit       no cost is greater: 64 goal ticks
 --     noWalkMark      the number that stands for "no walk" in the place of a distance
 --     largestJob      the counts at the limits. Refusal 2 is given past them (Questions.antt)
---     emptyJob        the counts of a job without lanes and carriers; a hall has a node at least, so it has
---                     one
+--     emptyJob        the counts of a job without lanes, closed nodes and carriers; a hall has a node at
+--                     least, so it has one
 use Prim.Native.Nat.{ℕ}
 use Rattle.hall.specs.declared.Job.{Job}
 
@@ -47,7 +48,7 @@ abbrev pub goalBlock : ℕ
 goalBlock = 8192
 
 abbrev pub textRoom : ℕ
-textRoom = 42000
+textRoom = 47132
 
 abbrev pub distanceLimit : ℕ
 distanceLimit = 1023
@@ -65,7 +66,7 @@ abbrev pub noWalkMark : ℕ
 noWalkMark = 65535
 
 abbrev pub largestJob : Job
-largestJob = record { nodes = nodeLimit; lanes = laneLimit; carriers = carrierLimit }
+largestJob = record { nodes = nodeLimit; lanes = laneLimit; closed = nodeLimit; carriers = carrierLimit }
 
 abbrev pub emptyJob : Job
-emptyJob = record { nodes = 1; lanes = 0; carriers = 0 }
+emptyJob = record { nodes = 1; lanes = 0; closed = 0; carriers = 0 }

@@ -2,25 +2,27 @@
 -- 8.30). To change an order, or to add a check, is to change a list here. What a question adds of its own
 -- comes in as a statement: `Short`, that a table lent to be filled lacks places; `Unfit`, that the list put
 -- forward is none of the shortest paths.
---     nodesCount, lanesCount, carriersCount, orderCount    2, each count at its place: 0, 1, 2 and 3. The
---                        lanes' is how many numbers their list has
+--     nodesCount, lanesCount, closedCount, carriersCount, orderCount    2, each count at its place: 0, 1, 4,
+--                        2 and 3, in this order. The lanes' is how many numbers their list has
 --     laneChecks         3, of the lane at a place
 --     eachLane           3, lane by lane
---     ends               4 and 5, of the move at a place, by its start and its goal
---     moveChecks         4 and 5, of the move at a place of a list of moves: no other move is looked at
---     eachMove           4 and 5, for each move in turn
+--     closedChecks       12, of the closed node at a place
+--     eachClosed         12, closed node by closed node
+--     ends               4, 5 and 13, of the move at a place, by its start and its goal
+--     moveChecks         4, 5 and 13, of the move at a place of a list of moves: no other move is looked at
+--     eachMove           4, 5 and 13, for each move in turn
 --     orderChecks        7, of the order's entry at a place
 --     eachOrderPlace     7, place by place
 --     walkChecks         8, of the move at a place
 --     eachWalk           8, for the lowest carrier number
 --     shortTable, lacking, unfit    9, 10 and 11
---     counts             2, of the four counts
---     networkQuestion    a network by itself: 2 (nodes, lanes), 3
---     checksQuestion     the listed checks of a job: 2 to 7
---     jobQuestion        a job: 2 to 8
+--     counts             2, of the five counts
+--     networkQuestion    a network by itself: 2 (nodes, lanes, closed nodes), 3, 12
+--     checksQuestion     the listed checks of a job: 2, 3, 12, then 4, 5 and 13 of each move, then 7
+--     jobQuestion        a job: the same, then 8
 --     planning           9, then those of the job
 --     writing            9, then the listed checks of the job; no walk is asked for
---     moveEnds           2, 3, 4, 5: a network and one move, whose place is 0
+--     moveEnds           2, 3, 12, 4, 5, 13: a network and one move, whose place is 0
 --     moveQuestion       the same with 8
 --     houseOfMove, listOfMove    the house path and the question about one list, with a network and a move
 --     askedQuestion      a job and a carrier number: those of the job, then 10
@@ -33,12 +35,12 @@ use Prim.Native.Nat.{ℕ, _/_, _%_, _≤_, _<_}
 use lib.ListN.{length}
 use Rattle.hall.specs.declared.Fault.the-variants.{BadCount, BadLane, OffFloor, SameEnds}
 use Rattle.hall.specs.declared.Fault.the-variants.{BadOrder, Unreachable, ShortTable, NoCarrier}
-use Rattle.hall.specs.declared.Fault.the-variants.{NotShortest}
+use Rattle.hall.specs.declared.Fault.the-variants.{NotShortest, BadClosed, ClosedEnd}
 use Rattle.hall.specs.Limits.{nodeLimit, laneLimit, carrierLimit}
 use Rattle.hall.specs.Floor.{NoWalk, Network, laneCount, floor}
 use Rattle.hall.specs.Job.{Numbers, carriers, moveCount, startIn, goalIn}
 use Rattle.hall.specs.Stages.{_when_, Stage, Question, asked, only-at, at-each}
-use Rattle.hall.specs.Refusals.{LaneFault, OffFloor-at, BadOrder-at}
+use Rattle.hall.specs.Refusals.{LaneFault, ClosedFault, OffFloor-at, ClosedEnd-at, BadOrder-at}
 
 -- ---- the stages
 
@@ -48,27 +50,39 @@ nodesCount nodes = asked BadCount 0 ((nodes < 1) ⊎ (nodeLimit < nodes))
 abbrev pub lanesCount : ℕ → Stage
 lanesCount numbers = asked BadCount 1 ((laneLimit < numbers / 2) ⊎ (numbers % 2 ≡ 1))
 
+abbrev pub closedCount : ℕ → Stage
+closedCount closed = asked BadCount 4 (nodeLimit < closed)
+
 abbrev pub carriersCount : ℕ → Stage
 carriersCount carriers = asked BadCount 2 (carrierLimit < carriers)
 
 abbrev pub orderCount : (order carriers : ℕ) → Stage
 orderCount order carriers = asked BadCount 3 (order ≢ carriers)
 
-abbrev pub laneChecks : Network → Stage
-laneChecks N = BadLane when LaneFault N ∷ []
+abbrev pub laneChecks : (nodes : ℕ) → List ℕ → Stage
+laneChecks nodes lanes = BadLane when LaneFault nodes lanes ∷ []
 
-abbrev pub eachLane : Network → Stage
-eachLane N = at-each (laneCount (N .lanes)) (laneChecks N)
+abbrev pub eachLane : (nodes : ℕ) → List ℕ → Stage
+eachLane nodes lanes = at-each (laneCount lanes) (laneChecks nodes lanes)
 
-abbrev pub ends : Network → (start goal : ℕ → ℕ) → Stage
-ends N start goal =
-    OffFloor when (λ i. OffFloor-at N (start i) (goal i)) ∷ SameEnds when (λ i. start i ≡ goal i) ∷ []
+abbrev pub closedChecks : (nodes : ℕ) → List ℕ → Stage
+closedChecks nodes closed = BadClosed when ClosedFault nodes closed ∷ []
 
-abbrev pub moveChecks : Network → List ℕ → Stage
-moveChecks N moves = ends N (startIn moves) (goalIn moves)
+abbrev pub eachClosed : (nodes : ℕ) → List ℕ → Stage
+eachClosed nodes closed = at-each (length closed) (closedChecks nodes closed)
 
-abbrev pub eachMove : Network → List ℕ → Stage
-eachMove N moves = at-each (moveCount moves) (moveChecks N moves)
+abbrev pub ends : (nodes : ℕ) (closed : List ℕ) (start goal : ℕ → ℕ) → Stage
+ends nodes closed start goal =
+    OffFloor when (λ i. OffFloor-at nodes (start i) (goal i))
+    ∷ SameEnds when (λ i. start i ≡ goal i)
+    ∷ ClosedEnd when (λ i. ClosedEnd-at closed (start i) (goal i))
+    ∷ []
+
+abbrev pub moveChecks : (nodes : ℕ) (closed moves : List ℕ) → Stage
+moveChecks nodes closed moves = ends nodes closed (startIn moves) (goalIn moves)
+
+abbrev pub eachMove : (nodes : ℕ) (closed moves : List ℕ) → Stage
+eachMove nodes closed moves = at-each (moveCount moves) (moveChecks nodes closed moves)
 
 abbrev pub orderChecks : (count : ℕ) → List ℕ → Stage
 orderChecks count order = BadOrder when BadOrder-at count order ∷ []
@@ -93,18 +107,31 @@ unfit Unfit = asked NotShortest 0 Unfit
 
 -- ---- a network, a job
 
-abbrev pub counts : (nodes lane-numbers carriers order : ℕ) → Question
-counts nodes lane-numbers carriers order =
-    nodesCount nodes ∷ lanesCount lane-numbers ∷ carriersCount carriers ∷ orderCount order carriers ∷ []
+abbrev pub counts : (nodes lane-numbers closed carriers order : ℕ) → Question
+counts nodes lane-numbers closed carriers order =
+    nodesCount nodes
+    ∷ lanesCount lane-numbers
+    ∷ closedCount closed
+    ∷ carriersCount carriers
+    ∷ orderCount order carriers
+    ∷ []
 
 abbrev pub networkQuestion : Network → Question
-networkQuestion N = nodesCount (N .nodes) ∷ lanesCount (length (N .lanes)) ∷ eachLane N ∷ []
+networkQuestion N =
+    nodesCount (N .nodes)
+    ∷ lanesCount (length (N .lanes))
+    ∷ closedCount (length (N .closed))
+    ∷ eachLane (N .nodes) (N .lanes)
+    ∷ eachClosed (N .nodes) (N .closed)
+    ∷ []
 
 abbrev pub checksQuestion : Numbers → Question
 checksQuestion j =
-    counts (j .network .nodes) (length (j .network .lanes)) (carriers j) (length (j .order))
-    ++ (eachLane (j .network)
-    ∷ eachMove (j .network) (j .moves)
+    counts (j .network .nodes) (length (j .network .lanes)) (length (j .network .closed))
+    (carriers j) (length (j .order))
+    ++ (eachLane (j .network .nodes) (j .network .lanes)
+    ∷ eachClosed (j .network .nodes) (j .network .closed)
+    ∷ eachMove (j .network .nodes) (j .network .closed) (j .moves)
     ∷ eachOrderPlace (carriers j) (j .order)
     ∷ [])
 
@@ -120,7 +147,7 @@ writing Short j = shortTable Short ∷ checksQuestion j
 -- ---- one move
 
 abbrev pub moveEnds : Network → (s g : ℕ) → Question
-moveEnds N s g = networkQuestion N ++ only-at 0 (ends N (λ i. s) (λ i. g))
+moveEnds N s g = networkQuestion N ++ only-at 0 (ends (N .nodes) (N .closed) (λ i. s) (λ i. g))
 
 abbrev pub moveQuestion : Network → (s g : ℕ) → Question
 moveQuestion N s g = moveEnds N s g ++ (asked Unreachable 0 (NoWalk (floor N) s g) ∷ [])

@@ -13,6 +13,7 @@ pub mod zero;
 pub struct Job {
     pub nodes: usize,
     pub lanes: usize,
+    pub closed: usize,
     pub carriers: usize,
 }
 
@@ -34,7 +35,7 @@ impl Job {
     pub const TABLE: usize = 3 * Job::BLOCK;
 
     // So many bytes hold the text of any job that is written: the least length of its output.
-    pub const TEXT_BYTES: usize = 42000;
+    pub const TEXT_BYTES: usize = 47132;
 
     // What stands for "no walk" in the place of a distance.
     pub const NO_WALK: u16 = 65535;
@@ -46,6 +47,7 @@ impl Job {
         Job {
             nodes: Job::NODES,
             lanes: Job::LANES,
+            closed: Job::NODES,
             carriers: Job::CARRIERS,
         }
     }
@@ -57,6 +59,7 @@ impl Job {
         Job {
             nodes: 1,
             lanes: 0,
+            closed: 0,
             carriers: 0,
         }
     }
@@ -94,6 +97,8 @@ pub enum Fault {
     ShortTable,
     NoCarrier,
     NotShortest,
+    BadClosed,
+    ClosedEnd,
 }
 
 impl Fault {
@@ -112,6 +117,8 @@ impl Fault {
             Fault::ShortTable => 9,
             Fault::NoCarrier => 10,
             Fault::NotShortest => 11,
+            Fault::BadClosed => 12,
+            Fault::ClosedEnd => 13,
         }
     }
 }

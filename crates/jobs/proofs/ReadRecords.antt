@@ -71,44 +71,48 @@ records-filled ms k rs two limit h =
 abbrev zeros : List ℕ
 zeros = replicate 128 0
 
-pub all-placed : {lanes records order : ℕ} → 8192 ≤ lanes → 64 ≤ records → 64 ≤ order
-    → Placing lanes records order 64
-all-placed {lanes} {records} {order} a b c = record { none = λ s. absurd (never s); all = λ n. refl }
+pub all-placed : {lanes closed records order : ℕ} → 8192 ≤ lanes → 1024 ≤ closed → 64 ≤ records → 64 ≤ order
+    → Placing lanes closed records order 64
+all-placed {lanes} {closed} {records} {order} a v b c = record { none = λ s. absurd (never s); all = λ n. refl }
   where
-    never : ¬ RecordsShort lanes records order
+    never : ¬ RecordsShort lanes closed records order
     never (inl h) = omega arith
     never (inr (inl h)) = omega arith
-    never (inr (inr h)) = omega arith
+    never (inr (inr (inl h))) = omega arith
+    never (inr (inr (inr h))) = omega arith
 
-module _ (lanes : List ℕ) (records : List Record) (order : List ℕ) (h : 64 ≤ length records) where
-  there : AnyShort lanes zeros order → LentShort lanes records order
+module _ (lanes closed : List ℕ) (records : List Record) (order : List ℕ) (h : 64 ≤ length records) where
+  there : AnyShort lanes closed zeros order → LentShort lanes closed records order
   there (inl l) = inl l
-  there (inr (inl m)) = absurd (let x : ⊥ = omega (arith, length-replicate {A = ℕ} 128 0) in x)
-  there (inr (inr o)) = inr (inr o)
+  there (inr (inl v)) = inr (inl v)
+  there (inr (inr (inl m))) = absurd (let x : ⊥ = omega (arith, length-replicate {A = ℕ} 128 0) in x)
+  there (inr (inr (inr o))) = inr (inr (inr o))
 
-  back : LentShort lanes records order → AnyShort lanes zeros order
+  back : LentShort lanes closed records order → AnyShort lanes closed zeros order
   back (inl l) = inl l
-  back (inr (inl r)) = absurd (let x : ⊥ = omega arith in x)
-  back (inr (inr o)) = inr (inr o)
+  back (inr (inl v)) = inr (inl v)
+  back (inr (inr (inl r))) = absurd (let x : ⊥ = omega arith in x)
+  back (inr (inr (inr o))) = inr (inr (inr o))
 
 -- ---- the answer with the records
 
-module _ (text lanes : List ℕ) (records : List Record) (order lanes′ moves′ order′ : List ℕ)
-    (records′ : List Record) (count : ℕ) (placing : Placing (length lanes) (length records) (length order) count)
+module _ (text lanes closed : List ℕ) (records : List Record) (order lanes′ closed′ moves′ order′ : List ℕ)
+    (records′ : List Record) (count : ℕ)
+    (placing : Placing (length lanes) (length closed) (length records) (length order) count)
     (stored : records′ ≡ placed count records moves′) where
   -- none is written, or all 64
-  none-written : LentShort lanes records order → records′ ≡ records
+  none-written : LentShort lanes closed records order → records′ ≡ records
   none-written s = stored ∙ ap (λ (n : ℕ). placed n records moves′) (placing .none s)
 
-  all-written : ¬ LentShort lanes records order → (m : List ℕ) → moves′ ≡ m → records′ ≡ placed 64 records m
+  all-written : ¬ LentShort lanes closed records order → (m : List ℕ) → moves′ ≡ m → records′ ≡ placed 64 records m
   all-written n m e =
       stored ∙ ap (λ (k : ℕ). placed k records moves′) (placing .all n) ∙ ap (λ (x : List ℕ). placed 64 records x) e
 
   read-accepted : (counts : Job) → 64 ≤ length records
-      → AcceptedAs text lanes zeros order lanes′ moves′ order′ counts
-      → JobAccepted text lanes records order lanes′ records′ order′ counts
+      → AcceptedAs text lanes closed zeros order lanes′ closed′ moves′ order′ counts
+      → JobAccepted text lanes closed records order lanes′ closed′ records′ order′ counts
   read-accepted counts h x =
-      let long : ¬ LentShort lanes records order = λ s. x .long (back lanes records order h s) in
+      let long : ¬ LentShort lanes closed records order = λ s. x .long (back lanes closed records order h s) in
       let j = x .job in
       let limit = carriers-limit j (x .writes .sound) in
       record {
@@ -117,47 +121,49 @@ module _ (text lanes : List ℕ) (records : List Record) (order lanes′ moves�
         writes = x .writes;
         is-counts = x .is-counts;
         lanes-left = x .lanes-left;
+        closed-left = x .closed-left;
         records-left = all-written long _ (x .moves-left)
             ∙ records-filled (j .moves) (carriers j) records (x .writes .paired) limit h;
         order-left = x .order-left;
       }
 
   read-refused : (n line : ℕ) → 64 ≤ length records
-      → RefusedWith text lanes zeros order lanes′ moves′ order′ n line
-      → JobRefused text lanes records order lanes′ records′ order′ n line
+      → RefusedWith text lanes closed zeros order lanes′ closed′ moves′ order′ n line
+      → JobRefused text lanes closed records order lanes′ closed′ records′ order′ n line
   read-refused n line h x = record {
     reason = reason (x .reason);
     lanes-left = x .lanes-left;
+    closed-left = x .closed-left;
     records-left = records-left (x .reason);
     order-left = x .order-left;
   }
     where
-      reason : Reason (AnyShort lanes zeros order) text n line → Reason (LentShort lanes records order) text n line
-      reason (short s a b) = short (there lanes records order h s) a b
-      reason (faulty k r) = faulty (λ s. k (back lanes records order h s)) r
+      reason : Reason (AnyShort lanes closed zeros order) text n line → Reason (LentShort lanes closed records order) text n line
+      reason (short s a b) = short (there lanes closed records order h s) a b
+      reason (faulty k r) = faulty (λ s. k (back lanes closed records order h s)) r
 
-      records-left : Reason (AnyShort lanes zeros order) text n line → records′ ≡ leftRecords n records
-      records-left (short s a b) = none-written (there lanes records order h s) ∙ ap (λ (m : ℕ). leftRecords m records) (sym a)
+      records-left : Reason (AnyShort lanes closed zeros order) text n line → records′ ≡ leftRecords n records
+      records-left (short s a b) = none-written (there lanes closed records order h s) ∙ ap (λ (m : ℕ). leftRecords m records) (sym a)
       records-left (faulty k r) =
-          let low = refused-with text n line r .1 in
-          let other : NotNine n = λ e. let y : ⊥ = omega arith in y in
+          let other : NotNine n = refused-with text n line r .4 in
           let blank = filled-none 128 zeros (omega (arith, length-replicate {A = ℕ} 128 0)) in
           rw (ne-eqb n 9 other)
-          (all-written (λ s. k (back lanes records order h s)) _ (x .moves-left ∙ left-by-other n 128 zeros other ∙ sym blank)
+          (all-written (λ s. k (back lanes closed records order h s)) _ (x .moves-left ∙ left-by-other n 128 zeros other ∙ sym blank)
           ∙ records-filled [] 0 records refl (omega arith) h)
 
-  given : (s : Said Job) → Beside text lanes (length records) zeros order lanes′ moves′ order′ s
-      → GivenJob text lanes records order lanes′ records′ order′ s
+  given : (s : Said Job) → Beside text lanes closed (length records) zeros order lanes′ closed′ moves′ order′ s
+      → GivenJob text lanes closed records order lanes′ closed′ records′ order′ s
   given (accepted counts) (enough _ h x) = read-accepted counts h x
   given (refused n line) (enough _ h x) = read-refused n line h x
-  given s (few _ h e l m o) =
-      subst (GivenJob text lanes records order lanes′ records′ order′) (sym e) (record {
-        reason = short (inr (inl h)) refl refl;
+  given s (few _ h e l v m o) =
+      subst (GivenJob text lanes closed records order lanes′ closed′ records′ order′) (sym e) (record {
+        reason = short (inr (inr (inl h))) refl refl;
         lanes-left = l;
-        records-left = none-written (inr (inl h));
+        closed-left = v;
+        records-left = none-written (inr (inr (inl h)));
         order-left = o;
       })
 
-  pub records-read : (r : Read) → Beside text lanes (length records) zeros order lanes′ moves′ order′ (saidRead r)
-      → ReadLeft text text lanes lanes′ records records′ order order′ r
+  pub records-read : (r : Read) → Beside text lanes closed (length records) zeros order lanes′ closed′ moves′ order′ (saidRead r)
+      → ReadLeft text text lanes lanes′ closed closed′ records records′ order order′ r
   records-read r x = record { given = given (saidRead r) x; text-kept = refl }

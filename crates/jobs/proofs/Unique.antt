@@ -55,14 +55,16 @@ use Rattle.jobs.proofs.ReadExactly.{reading-unique}
 
 -- ---- reading
 
-module _ (text lanes : List ℕ) (records : List Record) (order : List ℕ) (r s : Read) (t u l m : List ℕ)
-    (rs qs : List Record) (o p : List ℕ) where
-  pub read-job-unique : ReadLeft text t lanes l records rs order o r
-      → ReadLeft text u lanes m records qs order p s
-      → (r ≡ s) × (t ≡ u) × (l ≡ m) × (rs ≡ qs) × (o ≡ p)
+module _ (text lanes closed : List ℕ) (records : List Record) (order : List ℕ) (r s : Read)
+    (t u l m cs ds : List ℕ) (rs qs : List Record) (o p : List ℕ) where
+  pub read-job-unique : ReadLeft text t lanes l closed cs records rs order o r
+      → ReadLeft text u lanes m closed ds records qs order p s
+      → (r ≡ s) × (t ≡ u) × (l ≡ m) × (cs ≡ ds) × (rs ≡ qs) × (o ≡ p)
   read-job-unique a b =
-      let e = reading-unique text lanes records order l rs o m qs p (saidRead r) (saidRead s) (a .given) (b .given) in
-      (said-read-one r s (e .0), a .text-kept ∙ sym (b .text-kept), e .1, e .2, e .3)
+      let e =
+      reading-unique text lanes closed records order l cs rs o m ds qs p (saidRead r) (saidRead s) (a .given) (b .given)
+      in
+      (said-read-one r s (e .0), a .text-kept ∙ sym (b .text-kept), e .1, e .2, e .3, e .4)
 
 -- ---- planning
 

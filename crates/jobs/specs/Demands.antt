@@ -1,9 +1,10 @@
 -- What is owed to a caller of planning, said of the answers and of the tables themselves (rules 9.7 to 9.9,
 -- 12.2 and 12.3). Demand 3 is `Demand3` of the crate hall.
---     Demand2             the distances in the table and in the records are the true ones; each carrier in
---                         the order's turn has the smallest tick, from 0 up, that those before it permit; the
---                         cost is the sum of the goal ticks, each a start tick and a distance
---     NoEarlierFault      the table is long enough and nothing of the checks 2 to 7 holds, so that only 8 is
+--     Demand2             the distances in the table and in the records are the true ones, over open nodes;
+--                         each carrier in the order's turn has the smallest tick, from 0 up, that those
+--                         before it permit; the cost is the sum of the goal ticks, each a start tick and a
+--                         distance
+--     NoEarlierFault      the table is long enough and nothing of the listed checks holds, so that only 8 is
 --                         left to be given
 use mathlib.Core.Path.{_≡_}
 use mathlib.Core.List.{List}

@@ -20,18 +20,18 @@ use Rattle.planner.specs.declared.Planned.{Planned}
 use Rattle.planner.specs.declared.Planned.the-variants.{Cost, Refused}
 use Rattle.jobs.specs.Reading.{RecordsShort}
 
-pub data Beside (text lanes : List ℕ) (records : ℕ) (moves order lanes′ moves′ order′ : List ℕ)
-    : Said Job → Type 0 where
+pub data Beside (text lanes closed : List ℕ) (records : ℕ)
+    (moves order lanes′ closed′ moves′ order′ : List ℕ) : Said Job → Type 0 where
   few : (s : Said Job) → records < carrierLimit → s ≡ refused (numberOf ShortTable) 0
-      → lanes′ ≡ lanes → moves′ ≡ moves → order′ ≡ order
-      → Beside text lanes records moves order lanes′ moves′ order′ s
+      → lanes′ ≡ lanes → closed′ ≡ closed → moves′ ≡ moves → order′ ≡ order
+      → Beside text lanes closed records moves order lanes′ closed′ moves′ order′ s
   enough : (s : Said Job) → carrierLimit ≤ records
-      → ReadInto text lanes moves order lanes′ moves′ order′ s
-      → Beside text lanes records moves order lanes′ moves′ order′ s
+      → ReadInto text lanes closed moves order lanes′ closed′ moves′ order′ s
+      → Beside text lanes closed records moves order lanes′ closed′ moves′ order′ s
 
-pub record Placing (lanes records order count : ℕ) : Type 0 where
-  pub none : RecordsShort lanes records order → count ≡ 0
-  pub all : ¬ RecordsShort lanes records order → count ≡ carrierLimit
+pub record Placing (lanes closed records order count : ℕ) : Type 0 where
+  pub none : RecordsShort lanes closed records order → count ≡ 0
+  pub all : ¬ RecordsShort lanes closed records order → count ≡ carrierLimit
 
 abbrev pub crowd : ℕ
 crowd = 65

@@ -2,7 +2,7 @@
 -- 9.9): of a record it writes the distance and the tick and nothing else, and it fills the distance table. A
 -- network or a list with ′ is as the question leaves it.
 --     recordQuestion   the stages of planning: 9, if the table has fewer than 12,288 numbers, then those of
---                      the job, 2 to 8
+--                      the job (hall's `jobQuestion`)
 --     tickOf           a carrier's start tick in its record
 --     distanceOf       a carrier's distance in its record
 --     RecordsLeft      as many records, each with its start and goal as it came, and with the carrier's own

@@ -1,8 +1,8 @@
--- What reading a job text into lent tables promises, for every input (rules 7.13, 8.21, 9.5 and 9.6): it
--- fills lanes, records and order. When a text is accepted as which job, and refused with which number at
--- which line, is said in crate form. A list with ′ is as the question leaves it.
---     LentShort       9: lanes, records or order have fewer places than their least lengths; `RecordsShort`
---                     by the tables' lengths
+-- What reading a job text into lent tables promises, for every input (rules 7.13, 7.17, 8.21, 9.1, 9.5
+-- and 9.6): it fills lanes, closed nodes, records and order. When a text is accepted as which job, and refused
+-- with which number at which line, is said in crate form. A list with ′ is as the question leaves it.
+--     LentShort       9: lanes, closed nodes, records or order have fewer places than their least lengths;
+--                     `RecordsShort` by the tables' lengths
 --     recordsOf       the records of the moves of a job, by carrier number, with distance and tick zero
 --     filledRecords   the records of those moves, blank ones up to the 64th, and what stood beyond
 --     leftRecords     the records after the refusal with a number: 9 leaves them as they came, every other
@@ -23,7 +23,7 @@ use Prim.Native.Nat.{ℕ, _*_, _-_, _<_}
 use lib.ListN.{length, take, drop, replicate}
 use lib.Dec.{eqb}
 use Rattle.hall.specs.declared.Job.{Job}
-use Rattle.hall.specs.Limits.{carrierLimit, laneNumbers}
+use Rattle.hall.specs.Limits.{nodeLimit, carrierLimit, laneNumbers}
 use Rattle.hall.specs.Floor.{networkOf}
 use Rattle.hall.specs.Job.{Numbers}
 use Rattle.hall.specs.Said.{Said, accepted, refused}
@@ -35,12 +35,13 @@ use Rattle.reader.specs.declared.Read.{Read}
 use Rattle.reader.specs.Reading.{saidRead, countsOf, Reason}
 use Rattle.jobs.specs.Job.{recordJob}
 
-abbrev pub RecordsShort : (lanes records order : ℕ) → Type 0
-RecordsShort lanes records order =
-    (lanes < laneNumbers) ⊎ ((records < carrierLimit) ⊎ (order < carrierLimit))
+abbrev pub RecordsShort : (lanes closed records order : ℕ) → Type 0
+RecordsShort lanes closed records order =
+    (lanes < laneNumbers) ⊎ ((closed < nodeLimit) ⊎ ((records < carrierLimit) ⊎ (order < carrierLimit)))
 
-abbrev pub LentShort : (lanes : List ℕ) (records : List Record) (order : List ℕ) → Type 0
-LentShort lanes records order = RecordsShort (length lanes) (length records) (length order)
+abbrev pub LentShort : (lanes closed : List ℕ) (records : List Record) (order : List ℕ) → Type 0
+LentShort lanes closed records order =
+    RecordsShort (length lanes) (length closed) (length records) (length order)
 
 -- ---- records
 
@@ -59,35 +60,42 @@ leftRecords number records = cond (eqb number 9) records (filledRecords [] recor
 
 -- ---- the promise
 
-module _ (text lanes : List ℕ) (records : List Record) (order : List ℕ) where
-  pub record JobAccepted (lanes′ : List ℕ) (records′ : List Record) (order′ : List ℕ) (counts : Job)
+module _ (text lanes closed : List ℕ) (records : List Record) (order : List ℕ) where
+  pub record JobAccepted (lanes′ closed′ : List ℕ) (records′ : List Record) (order′ : List ℕ) (counts : Job)
       : Type 0 where
-    pub long : ¬ LentShort lanes records order
+    pub long : ¬ LentShort lanes closed records order
     pub job : Numbers
     pub writes : WrittenJob text job
     pub is-counts : counts ≡ countsOf job
     pub lanes-left : lanes′ ≡ filled (job .network .lanes) laneNumbers lanes
+    pub closed-left : closed′ ≡ filled (job .network .closed) nodeLimit closed
     pub records-left : records′ ≡ filledRecords (job .moves) records
     pub order-left : order′ ≡ filled (job .order) carrierLimit order
 
-  pub record JobRefused (lanes′ : List ℕ) (records′ : List Record) (order′ : List ℕ) (number line : ℕ)
-      : Type 0 where
-    pub reason : Reason (LentShort lanes records order) text number line
+  pub record JobRefused (lanes′ closed′ : List ℕ) (records′ : List Record) (order′ : List ℕ)
+      (number line : ℕ) : Type 0 where
+    pub reason : Reason (LentShort lanes closed records order) text number line
     pub lanes-left : lanes′ ≡ left number laneNumbers lanes
+    pub closed-left : closed′ ≡ left number nodeLimit closed
     pub records-left : records′ ≡ leftRecords number records
     pub order-left : order′ ≡ left number carrierLimit order
 
-  abbrev pub GivenJob : (lanes′ : List ℕ) (records′ : List Record) (order′ : List ℕ) → Said Job → Type 0
-  GivenJob lanes′ records′ order′ (accepted counts) = JobAccepted lanes′ records′ order′ counts
-  GivenJob lanes′ records′ order′ (refused number line) = JobRefused lanes′ records′ order′ number line
+  abbrev pub GivenJob : (lanes′ closed′ : List ℕ) (records′ : List Record) (order′ : List ℕ) → Said Job
+      → Type 0
+  GivenJob lanes′ closed′ records′ order′ (accepted counts) =
+      JobAccepted lanes′ closed′ records′ order′ counts
+  GivenJob lanes′ closed′ records′ order′ (refused number line) =
+      JobRefused lanes′ closed′ records′ order′ number line
 
-pub record ReadLeft (text text′ lanes lanes′ : List ℕ) (records records′ : List Record)
+pub record ReadLeft (text text′ lanes lanes′ closed closed′ : List ℕ) (records records′ : List Record)
     (order order′ : List ℕ) (r : Read) : Type 0 where
-  pub given : GivenJob text lanes records order lanes′ records′ order′ (saidRead r)
+  pub given : GivenJob text lanes closed records order lanes′ closed′ records′ order′ (saidRead r)
   pub text-kept : text′ ≡ text
 
-abbrev pub jobRead : (counts : Job) (lanes′ : List ℕ) (records′ : List Record) (order′ : List ℕ) → Numbers
-jobRead counts lanes′ records′ order′ =
-    recordJob (networkOf (counts .nodes) (take (2 * counts .lanes) lanes′))
+abbrev pub jobRead : (counts : Job) (lanes′ closed′ : List ℕ) (records′ : List Record) (order′ : List ℕ)
+    → Numbers
+jobRead counts lanes′ closed′ records′ order′ =
+    recordJob
+    (networkOf (counts .nodes) (take (2 * counts .lanes) lanes′) (take (counts .closed) closed′))
     (take (counts .carriers) records′)
     (take (counts .carriers) order′)

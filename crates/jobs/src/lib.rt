@@ -44,14 +44,15 @@ mod loaded;
 fn read_beside(
     text: &[u8],
     lanes: &mut [u16],
+    closed: &mut [u16],
     records: usize,
     moves: &mut [u16],
     order: &mut [u16],
 ) -> Read
     ensures { λ r. ⌜ Beside
         (now (text .entry))
-        (now (lanes .entry)) records (now (moves .entry)) (now (order .entry))
-        (now (lanes .exit)) (now (moves .exit)) (now (order .exit))
+        (now (lanes .entry)) (now (closed .entry)) records (now (moves .entry)) (now (order .entry))
+        (now (lanes .exit)) (now (closed .exit)) (now (moves .exit)) (now (order .exit))
         (saidRead r) ⌝ }
 {
     if records < Job::CARRIERS {
@@ -60,14 +61,17 @@ fn read_beside(
             place: 0,
         });
     }
-    read_numbers(text, lanes, moves, order)
+    read_numbers(text, lanes, closed, moves, order)
 }
 
 // How many records reading writes, by the lengths of the lent tables: none if one of them is too short.
-fn placed_count(lanes: usize, records: usize, order: usize) -> usize
-    ensures { λ r. ⌜ Placing lanes records order r ⌝ }
+fn placed_count(lanes: usize, closed: usize, records: usize, order: usize) -> usize
+    ensures { λ r. ⌜ Placing lanes closed records order r ⌝ }
 {
     if lanes < Job::LANE_NUMBERS {
+        return 0;
+    }
+    if closed < Job::NODES {
         return 0;
     }
     if records < Job::CARRIERS {
@@ -79,35 +83,44 @@ fn placed_count(lanes: usize, records: usize, order: usize) -> usize
     Job::CARRIERS
 }
 
-// Reads a job text: the lanes' numbers go to `lanes`, the carriers' starts and goals to the first 64
-// `records`, with distance and tick 0, the order to `order`.
-pub fn read_job(text: &[u8], lanes: &mut [u16], records: &mut [Record], order: &mut [u16]) -> Read
+// Reads a job text: the lanes' numbers go to `lanes`, the closed nodes to `closed`, the carriers' starts and
+// goals to the first 64 `records`, with distance and tick 0, the order to `order`.
+pub fn read_job(
+    text: &[u8],
+    lanes: &mut [u16],
+    closed: &mut [u16],
+    records: &mut [Record],
+    order: &mut [u16],
+) -> Read
     ensures { λ r. ⌜ ReadLeft
         (now (text .entry)) (now (text .exit))
         (now (lanes .entry)) (now (lanes .exit))
+        (now (closed .entry)) (now (closed .exit))
         (now (records .entry)) (now (records .exit))
         (now (order .entry)) (now (order .exit)) r ⌝ }
 {
     let mut moves = [0u16; Job::MOVE_NUMBERS];
-    let answer = read_beside(text, lanes, records.len(), &mut moves, order);
-    let count = placed_count(lanes.len(), records.len(), order.len());
+    let answer = read_beside(text, lanes, closed, records.len(), &mut moves, order);
+    let count = placed_count(lanes.len(), closed.len(), records.len(), order.len());
     store_moves(records, count, &moves);
     answer
 }
 
 // ---- writing
 
-// Writes a job as its text, to the front of an output of 42,000 bytes at least; answers how many bytes the
+// Writes a job as its text, to the front of an output of 47,132 bytes at least; answers how many bytes the
 // text has, or the first refusal. What is left in the output is as `writer::write_numbers` leaves it.
 pub fn write_job(
     nodes: usize,
     lanes: &[u16],
+    closed: &[u16],
     records: &[Record],
     order: &[u16],
     out: &mut [u8],
 ) -> Written
     ensures { λ r. ⌜ RecordWriting
-        (networkOf nodes (now (lanes .entry))) (networkOf nodes (now (lanes .exit)))
+        (networkOf nodes (now (lanes .entry)) (now (closed .entry)))
+        (networkOf nodes (now (lanes .exit)) (now (closed .exit)))
         (now (records .entry)) (now (records .exit))
         (now (order .entry)) (now (order .exit))
         (now (out .entry)) (now (out .exit))
@@ -115,7 +128,7 @@ pub fn write_job(
 {
     let mut moves = [0u16; LOADED_NUMBERS];
     load_moves(records, &mut moves);
-    write_loaded(nodes, lanes, records.len(), &moves, order, out)
+    write_loaded(nodes, lanes, closed, records.len(), &moves, order, out)
 }
 
 // ---- planning
@@ -135,12 +148,14 @@ fn stored_count(answer: Planned, records: usize) -> usize
 pub fn plan(
     nodes: usize,
     lanes: &[u16],
+    closed: &[u16],
     records: &mut [Record],
     order: &[u16],
     table: &mut [u16],
 ) -> Planned
     ensures { λ r. ⌜ RecordPlanning
-        (networkOf nodes (now (lanes .entry))) (networkOf nodes (now (lanes .exit)))
+        (networkOf nodes (now (lanes .entry)) (now (closed .entry)))
+        (networkOf nodes (now (lanes .exit)) (now (closed .exit)))
         (now (records .entry)) (now (records .exit))
         (now (order .entry)) (now (order .exit))
         (now (table .entry)) (now (table .exit))
@@ -154,6 +169,7 @@ pub fn plan(
     let answer = plan_loaded(
         nodes,
         lanes,
+        closed,
         n,
         &moves,
         order,
@@ -173,13 +189,15 @@ pub fn plan(
 pub fn house(
     nodes: usize,
     lanes: &[u16],
+    closed: &[u16],
     records: &[Record],
     order: &[u16],
     carrier: Carrier,
     path: &mut [u16],
 ) -> Housed
     ensures { λ r. ⌜ HouseOfRecords
-        (networkOf nodes (now (lanes .entry))) (networkOf nodes (now (lanes .exit)))
+        (networkOf nodes (now (lanes .entry)) (now (closed .entry)))
+        (networkOf nodes (now (lanes .exit)) (now (closed .exit)))
         (now (records .entry)) (now (records .exit))
         (now (order .entry)) (now (order .exit))
         (carrier .0)
@@ -188,20 +206,31 @@ pub fn house(
 {
     let mut moves = [0u16; LOADED_NUMBERS];
     load_moves(records, &mut moves);
-    house_loaded(nodes, lanes, records.len(), &moves, order, carrier, path)
+    house_loaded(
+        nodes,
+        lanes,
+        closed,
+        records.len(),
+        &moves,
+        order,
+        carrier,
+        path,
+    )
 }
 
 // Whether a proposed list is a shortest path of one carrier of a job.
 pub fn judge(
     nodes: usize,
     lanes: &[u16],
+    closed: &[u16],
     records: &[Record],
     order: &[u16],
     carrier: Carrier,
     list: &[u16],
 ) -> Checked
     ensures { λ r. ⌜ ListOfRecords
-        (networkOf nodes (now (lanes .entry))) (networkOf nodes (now (lanes .exit)))
+        (networkOf nodes (now (lanes .entry)) (now (closed .entry)))
+        (networkOf nodes (now (lanes .exit)) (now (closed .exit)))
         (now (records .entry)) (now (records .exit))
         (now (order .entry)) (now (order .exit))
         (carrier .0)
@@ -210,5 +239,14 @@ pub fn judge(
 {
     let mut moves = [0u16; LOADED_NUMBERS];
     load_moves(records, &mut moves);
-    judge_loaded(nodes, lanes, records.len(), &moves, order, carrier, list)
+    judge_loaded(
+        nodes,
+        lanes,
+        closed,
+        records.len(),
+        &moves,
+        order,
+        carrier,
+        list,
+    )
 }

@@ -54,6 +54,7 @@ fn part(records: usize, moves: &[u16]) -> &[u16]
 pub(crate) fn plan_loaded(
     nodes: usize,
     lanes: &[u16],
+    closed: &[u16],
     records: usize,
     moves: &[u16],
     order: &[u16],
@@ -63,7 +64,7 @@ pub(crate) fn plan_loaded(
 ) -> Planned
     ensures { λ r. ⌜ Planning
         (jobOf
-        (networkOf nodes (now (lanes .entry)))
+        (networkOf nodes (now (lanes .entry)) (now (closed .entry)))
         (loaded records (now (moves .entry)))
         (now (order .entry)))
         (lent (now (table .entry)) (now (distances .entry)) (now (ticks .entry)))
@@ -73,6 +74,7 @@ pub(crate) fn plan_loaded(
     plan_moves(
         nodes,
         lanes,
+        closed,
         part(records, moves),
         order,
         table,
@@ -85,6 +87,7 @@ pub(crate) fn plan_loaded(
 pub(crate) fn house_loaded(
     nodes: usize,
     lanes: &[u16],
+    closed: &[u16],
     records: usize,
     moves: &[u16],
     order: &[u16],
@@ -93,20 +96,29 @@ pub(crate) fn house_loaded(
 ) -> Housed
     ensures { λ r. ⌜ HouseGiven
         (jobOf
-        (networkOf nodes (now (lanes .entry)))
+        (networkOf nodes (now (lanes .entry)) (now (closed .entry)))
         (loaded records (now (moves .entry)))
         (now (order .entry)))
         (carrier .0)
         (now (path .entry)) (now (path .exit))
         r ⌝ }
 {
-    house_for(nodes, lanes, part(records, moves), order, carrier, path)
+    house_for(
+        nodes,
+        lanes,
+        closed,
+        part(records, moves),
+        order,
+        carrier,
+        path,
+    )
 }
 
 // Whether a list is a shortest path of one carrier of a job of `records` carriers whose moves are loaded.
 pub(crate) fn judge_loaded(
     nodes: usize,
     lanes: &[u16],
+    closed: &[u16],
     records: usize,
     moves: &[u16],
     order: &[u16],
@@ -115,20 +127,29 @@ pub(crate) fn judge_loaded(
 ) -> Checked
     ensures { λ r. ⌜ ListGiven
         (jobOf
-        (networkOf nodes (now (lanes .entry)))
+        (networkOf nodes (now (lanes .entry)) (now (closed .entry)))
         (loaded records (now (moves .entry)))
         (now (order .entry)))
         (carrier .0)
         (now (list .entry))
         r ⌝ }
 {
-    judge_for(nodes, lanes, part(records, moves), order, carrier, list)
+    judge_for(
+        nodes,
+        lanes,
+        closed,
+        part(records, moves),
+        order,
+        carrier,
+        list,
+    )
 }
 
 // The text of a job of `records` carriers whose moves are loaded.
 pub(crate) fn write_loaded(
     nodes: usize,
     lanes: &[u16],
+    closed: &[u16],
     records: usize,
     moves: &[u16],
     order: &[u16],
@@ -136,11 +157,11 @@ pub(crate) fn write_loaded(
 ) -> Written
     ensures { λ r. ⌜ Writing
         (jobOf
-        (networkOf nodes (now (lanes .entry)))
+        (networkOf nodes (now (lanes .entry)) (now (closed .entry)))
         (loaded records (now (moves .entry)))
         (now (order .entry)))
         (now (out .entry)) (now (out .exit))
         (saidWritten r) ⌝ }
 {
-    write_numbers(nodes, lanes, part(records, moves), order, out)
+    write_numbers(nodes, lanes, closed, part(records, moves), order, out)
 }

@@ -27,15 +27,15 @@ module _ (count : ℕ) (fields f g : List ℕ) where
   abbrev front : List Record
   front = frontOf count fields
 
-  pub read-lent-unique : (text t u lanes l m order o p : List ℕ) (r s : Read)
-      → LentReading text t lanes l count order o fields f r
-      → LentReading text u lanes m count order p fields g s
-      → (r ≡ s) × (t ≡ u) × (l ≡ m) × (o ≡ p) × (f ≡ g)
-  read-lent-unique text t u lanes l m order o p r s a b =
+  pub read-lent-unique : (text t u lanes l m closed cs ds order o p : List ℕ) (r s : Read)
+      → LentReading text t lanes l closed cs count order o fields f r
+      → LentReading text u lanes m closed ds count order p fields g s
+      → (r ≡ s) × (t ≡ u) × (l ≡ m) × (cs ≡ ds) × (o ≡ p) × (f ≡ g)
+  read-lent-unique text t u lanes l m closed cs ds order o p r s a b =
       let e =
-      read-job-unique text lanes front order r s t u l m (a .left) (b .left) o p (a .asked) (b .asked)
+      read-job-unique text lanes closed front order r s t u l m cs ds (a .left) (b .left) o p (a .asked) (b .asked)
       in
-      (e .0, e .1, e .2, e .4, lending-unique _ _ count fields f g a b (e .3))
+      (e .0, e .1, e .2, e .3, e .5, lending-unique _ _ count fields f g a b (e .4))
 
   module _ (N M O : Network) (order o p : List ℕ) where
     pub plan-lent-unique : (table t u : List ℕ) (r s : Planned)

@@ -91,10 +91,10 @@ pub record Lending (Asked : (records left : List Record) → Type 0) (count : �
   pub asked : Asked (frontOf count fields) left
   pub told : fields′ ≡ toldTo (left ++ backOf count fields) fields
 
-abbrev pub LentReading : (text text′ lanes lanes′ : List ℕ) (count : ℕ) (order order′ fields fields′ : List ℕ)
-    → Read → Type 0
-LentReading text text′ lanes lanes′ count order order′ fields fields′ r =
-    Lending (λ records left. ReadLeft text text′ lanes lanes′ records left order order′ r)
+abbrev pub LentReading : (text text′ lanes lanes′ closed closed′ : List ℕ) (count : ℕ)
+    (order order′ fields fields′ : List ℕ) → Read → Type 0
+LentReading text text′ lanes lanes′ closed closed′ count order order′ fields fields′ r =
+    Lending (λ records left. ReadLeft text text′ lanes lanes′ closed closed′ records left order order′ r)
     count fields fields′
 
 abbrev pub LentPlanning : (N N′ : Network) (count : ℕ) (order order′ table table′ fields fields′ : List ℕ)

@@ -140,6 +140,7 @@ fn told(records: [Record; LENDABLE], fields: &mut [u32])
 pub fn read_lent(
     text: &[u8],
     lanes: &mut [u16],
+    closed: &mut [u16],
     count: usize,
     order: &mut [u16],
     fields: &mut [u32],
@@ -147,6 +148,7 @@ pub fn read_lent(
     ensures { λ r. ⌜ LentReading
         (now (text .entry)) (now (text .exit))
         (now (lanes .entry)) (now (lanes .exit))
+        (now (closed .entry)) (now (closed .exit))
         count
         (now (order .entry)) (now (order .exit))
         (now (fields .entry)) (now (fields .exit))
@@ -154,7 +156,7 @@ pub fn read_lent(
 {
     let mut records = made(fields);
     let n = within(count);
-    let answer = read_job(text, lanes, &mut records[..n], order);
+    let answer = read_job(text, lanes, closed, &mut records[..n], order);
     told(records, fields);
     answer
 }
@@ -163,13 +165,15 @@ pub fn read_lent(
 pub fn plan_lent(
     nodes: usize,
     lanes: &[u16],
+    closed: &[u16],
     count: usize,
     order: &[u16],
     table: &mut [u16],
     fields: &mut [u32],
 ) -> Planned
     ensures { λ r. ⌜ LentPlanning
-        (networkOf nodes (now (lanes .entry))) (networkOf nodes (now (lanes .exit)))
+        (networkOf nodes (now (lanes .entry)) (now (closed .entry)))
+        (networkOf nodes (now (lanes .exit)) (now (closed .exit)))
         count
         (now (order .entry)) (now (order .exit))
         (now (table .entry)) (now (table .exit))
@@ -178,7 +182,7 @@ pub fn plan_lent(
 {
     let mut records = made(fields);
     let n = within(count);
-    let answer = plan(nodes, lanes, &mut records[..n], order, table);
+    let answer = plan(nodes, lanes, closed, &mut records[..n], order, table);
     told(records, fields);
     answer
 }
@@ -187,6 +191,7 @@ pub fn plan_lent(
 pub fn house_lent(
     nodes: usize,
     lanes: &[u16],
+    closed: &[u16],
     count: usize,
     order: &[u16],
     carrier: Carrier,
@@ -194,7 +199,8 @@ pub fn house_lent(
     fields: &mut [u32],
 ) -> Housed
     ensures { λ r. ⌜ LentHouse
-        (networkOf nodes (now (lanes .entry))) (networkOf nodes (now (lanes .exit)))
+        (networkOf nodes (now (lanes .entry)) (now (closed .entry)))
+        (networkOf nodes (now (lanes .exit)) (now (closed .exit)))
         count
         (now (order .entry)) (now (order .exit))
         (carrier .0)
@@ -204,7 +210,7 @@ pub fn house_lent(
 {
     let records = made(fields);
     let n = within(count);
-    let answer = house(nodes, lanes, &records[..n], order, carrier, path);
+    let answer = house(nodes, lanes, closed, &records[..n], order, carrier, path);
     told(records, fields);
     answer
 }
@@ -213,6 +219,7 @@ pub fn house_lent(
 pub fn judge_lent(
     nodes: usize,
     lanes: &[u16],
+    closed: &[u16],
     count: usize,
     order: &[u16],
     carrier: Carrier,
@@ -220,7 +227,8 @@ pub fn judge_lent(
     fields: &mut [u32],
 ) -> Checked
     ensures { λ r. ⌜ LentList
-        (networkOf nodes (now (lanes .entry))) (networkOf nodes (now (lanes .exit)))
+        (networkOf nodes (now (lanes .entry)) (now (closed .entry)))
+        (networkOf nodes (now (lanes .exit)) (now (closed .exit)))
         count
         (now (order .entry)) (now (order .exit))
         (carrier .0)
@@ -230,7 +238,7 @@ pub fn judge_lent(
 {
     let records = made(fields);
     let n = within(count);
-    let answer = judge(nodes, lanes, &records[..n], order, carrier, list);
+    let answer = judge(nodes, lanes, closed, &records[..n], order, carrier, list);
     told(records, fields);
     answer
 }
@@ -239,13 +247,15 @@ pub fn judge_lent(
 pub fn write_lent(
     nodes: usize,
     lanes: &[u16],
+    closed: &[u16],
     count: usize,
     order: &[u16],
     out: &mut [u8],
     fields: &mut [u32],
 ) -> Written
     ensures { λ r. ⌜ LentWriting
-        (networkOf nodes (now (lanes .entry))) (networkOf nodes (now (lanes .exit)))
+        (networkOf nodes (now (lanes .entry)) (now (closed .entry)))
+        (networkOf nodes (now (lanes .exit)) (now (closed .exit)))
         count
         (now (order .entry)) (now (order .exit))
         (now (out .entry)) (now (out .exit))
@@ -254,7 +264,7 @@ pub fn write_lent(
 {
     let records = made(fields);
     let n = within(count);
-    let answer = write_job(nodes, lanes, &records[..n], order, out);
+    let answer = write_job(nodes, lanes, closed, &records[..n], order, out);
     told(records, fields);
     answer
 }

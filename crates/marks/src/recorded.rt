@@ -5,10 +5,11 @@ use super::marked::lend_shorts;
 use super::marked::print_numbers;
 use super::marked::print_shorts;
 use super::written;
-use batch::payload::behind_lanes;
+use batch::payload::behind_network;
 use batch::payload::lane_room;
 use batch::payload::least;
 use batch::payload::list_room;
+use batch::payload::loaded_closed;
 use batch::payload::loaded_lanes;
 use batch::payload::loaded_list;
 use batch::payload::long_at;
@@ -29,18 +30,21 @@ fn print_records(fields: &[u32; 320]) {
 }
 
 pub(crate) fn read(s: &[u8]) {
-    let count = short_at(s, 2) as usize;
+    let count = short_at(s, 4) as usize;
     let mut lanes = [7777u16; 8300];
+    let mut closed = [7777u16; 1100];
     let mut order = [7777u16; 100];
     let mut fields = [7777u32; 320];
     print::read(read_lent(
-        rest(s, 6),
+        rest(s, 8),
         lend_shorts(&mut lanes, s, 0),
+        lend_shorts(&mut closed, s, 2),
         count,
-        lend_shorts(&mut order, s, 4),
+        lend_shorts(&mut order, s, 6),
         &mut fields,
     ));
     print_shorts(b"lanes", &lanes);
+    print_shorts(b"closed", &closed);
     print_records(&fields);
     print_shorts(b"order", &order);
 }
@@ -63,20 +67,22 @@ fn load_records(s: &[u8], count: usize, fields: &mut [u32; 320]) {
 // length of what is lent, with a carrier or without, or a carrier and a list.
 pub(crate) fn ask(kind: u8, s: &[u8], job: &[u8]) {
     let nodes = long_at(job, 0) as usize;
-    let records = behind_lanes(job);
+    let records = behind_network(job);
     let count = least(short_at(records, 0) as usize, 80);
     let behind = rest(records, 2 + 10 * count);
     let mut lane_space = lane_room();
+    let mut closed_space = lane_room();
     let mut order_space = [0u16; 100];
     let mut fields = [7777u32; 320];
     load_records(rest(records, 2), count, &mut fields);
     let lanes = loaded_lanes(job, &mut lane_space);
+    let closed = loaded_closed(job, &mut closed_space);
     let order = loaded_list(behind, &mut order_space);
     match kind {
-        b'p' => plan(s, nodes, lanes, count, order, &mut fields),
-        b'o' => house(s, nodes, lanes, count, order, &mut fields),
-        b'y' => written::from_records(s, nodes, lanes, count, order, &mut fields),
-        _ => judge(s, nodes, lanes, count, order, &mut fields),
+        b'p' => plan(s, nodes, lanes, closed, count, order, &mut fields),
+        b'o' => house(s, nodes, lanes, closed, count, order, &mut fields),
+        b'y' => written::from_records(s, nodes, lanes, closed, count, order, &mut fields),
+        _ => judge(s, nodes, lanes, closed, count, order, &mut fields),
     }
     print_records(&fields);
 }
@@ -85,6 +91,7 @@ fn plan(
     s: &[u8],
     nodes: usize,
     lanes: &[u16],
+    closed: &[u16],
     count: usize,
     order: &[u16],
     fields: &mut [u32; 320],
@@ -93,6 +100,7 @@ fn plan(
     print::planned(plan_lent(
         nodes,
         lanes,
+        closed,
         count,
         order,
         lend_shorts(&mut table, s, 0),
@@ -105,6 +113,7 @@ fn house(
     s: &[u8],
     nodes: usize,
     lanes: &[u16],
+    closed: &[u16],
     count: usize,
     order: &[u16],
     fields: &mut [u32; 320],
@@ -114,6 +123,7 @@ fn house(
     print::housed(house_lent(
         nodes,
         lanes,
+        closed,
         count,
         order,
         carrier,
@@ -127,6 +137,7 @@ fn judge(
     s: &[u8],
     nodes: usize,
     lanes: &[u16],
+    closed: &[u16],
     count: usize,
     order: &[u16],
     fields: &mut [u32; 320],
@@ -134,5 +145,5 @@ fn judge(
     let carrier = Carrier(short_at(s, 0));
     let mut room = list_room();
     let list = loaded_list(rest(s, 2), &mut room);
-    print::judged(judge_lent(nodes, lanes, count, order, carrier, list, fields));
+    print::judged(judge_lent(nodes, lanes, closed, count, order, carrier, list, fields));
 }

@@ -10,9 +10,23 @@ use lent::write_lent;
 use writer::Written;
 use writer::write_numbers;
 
-pub(crate) fn from_numbers(s: &[u8], nodes: usize, lanes: &[u16], moves: &[u16], order: &[u16]) {
+pub(crate) fn from_numbers(
+    s: &[u8],
+    nodes: usize,
+    lanes: &[u16],
+    closed: &[u16],
+    moves: &[u16],
+    order: &[u16],
+) {
     let mut out = marked_room();
-    let answer = write_numbers(nodes, lanes, moves, order, lend_bytes(&mut out, s, 0));
+    let answer = write_numbers(
+        nodes,
+        lanes,
+        closed,
+        moves,
+        order,
+        lend_bytes(&mut out, s, 0),
+    );
     print_written(answer, &out);
 }
 
@@ -20,6 +34,7 @@ pub(crate) fn from_records(
     s: &[u8],
     nodes: usize,
     lanes: &[u16],
+    closed: &[u16],
     count: usize,
     order: &[u16],
     fields: &mut [u32; 320],
@@ -28,6 +43,7 @@ pub(crate) fn from_records(
     let answer = write_lent(
         nodes,
         lanes,
+        closed,
         count,
         order,
         lend_bytes(&mut out, s, 0),

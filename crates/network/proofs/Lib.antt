@@ -1,4 +1,5 @@
 -- The laws behind the checks from numbers, and that one answer fits each.
 pub mod Questions
-pub mod Lanes
+pub mod LaneList
+pub mod ClosedList
 pub mod Unique

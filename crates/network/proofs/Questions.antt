@@ -7,7 +7,7 @@ use mathlib.Core.List.{[], _∷_, _++_}
 use Prim.Native.Nat.{ℕ, _<_}
 use native.Mathlib.Omega.{arith}
 use Rattle.hall.specs.Stages.{Stage, Question, FirstOf, here, later, First, None, once, only-at, at-each}
-use Rattle.hall.specs.Questions.{nodesCount, lanesCount, carriersCount, orderCount, counts}
+use Rattle.hall.specs.Questions.{nodesCount, lanesCount, closedCount, carriersCount, orderCount, counts}
 use Rattle.hall.proofs.Stages.{none-excludes}
 use Rattle.hall.proofs.Compose.{none-at-all, none-split, first-split}
 use Rattle.hall.proofs.Compose.{_⇒_, ⇒-append, ⇒-stage, alike-none, alike-check}
@@ -31,8 +31,10 @@ left-out a b none = record { firsts = λ f p h. cases (first-split a b h); nones
     cases (here h) = h
     cases (later n h) = absurd (none-excludes h none)
 
-pub counts-of-network : (nodes lane-numbers : ℕ) →
-    counts nodes lane-numbers 0 0 ⇒ nodesCount nodes ∷ lanesCount lane-numbers ∷ []
-counts-of-network nodes lane-numbers =
-    left-out (nodesCount nodes ∷ lanesCount lane-numbers ∷ []) (carriersCount 0 ∷ orderCount 0 0 ∷ [])
+pub counts-of-network : (nodes lane-numbers closed : ℕ) →
+    counts nodes lane-numbers closed 0 0
+    ⇒ nodesCount nodes ∷ lanesCount lane-numbers ∷ closedCount closed ∷ []
+counts-of-network nodes lane-numbers closed =
+    left-out (nodesCount nodes ∷ lanesCount lane-numbers ∷ closedCount closed ∷ [])
+    (carriersCount 0 ∷ orderCount 0 0 ∷ [])
     (asked-clear (omega arith) (asked-clear (λ differ. differ refl) none-at-all))

@@ -1,39 +1,54 @@
 -- One answer fits each promise: two answers that fit what a check ensures are equal. There is at most one
--- first fault, and none where the answer is sound (hall's `judged-unique`), whatever stages the check asks.
--- One line for each public function. Assumes nothing.
+-- first fault, and none where the answer is sound (hall's `judged-unique`), whatever stages the check asks;
+-- and a yes or no that tells of a statement is the only one (`answers-unique`). One line for each public
+-- function. Assumes nothing.
 --     OneAnswer q    two answers that fit the question q are equal
 use mathlib.Core.Path.{_≡_}
+use mathlib.Core.Bool.{Bool}
 use mathlib.Core.List.{List, [], _∷_}
 use Prim.Native.Nat.{ℕ}
 use Rattle.hall.specs.declared.Checked.{Checked}
-use Rattle.hall.specs.Floor.{Network, nodesOnly}
+use Rattle.hall.specs.Floor.{Network, Closed}
 use Rattle.hall.specs.Job.{Numbers}
+use Rattle.hall.specs.Rule.{Answers}
 use Rattle.hall.specs.Stages.{Question, only-at}
 use Rattle.hall.specs.Said.{Judged}
-use Rattle.hall.specs.Questions.{counts, eachLane, eachMove, eachOrderPlace}
+use Rattle.hall.specs.Questions.{counts, eachLane, eachClosed, eachMove, eachOrderPlace}
 use Rattle.hall.specs.Questions.{networkQuestion, checksQuestion, moveEnds}
 use Rattle.hall.proofs.Stages.{judged-unique}
+use Rattle.hall.proofs.Answers.{answers-unique}
 
 abbrev pub OneAnswer : Question → Type 0
 OneAnswer q = (c d : Checked) → Judged q c → Judged q d → c ≡ d
 
-pub check-counts-unique : (nodes lane-numbers carriers order : ℕ) →
-    OneAnswer (counts nodes lane-numbers carriers order)
-check-counts-unique nodes lane-numbers carriers order =
-    judged-unique (counts nodes lane-numbers carriers order)
+pub check-counts-unique : (nodes lane-numbers closed carriers order : ℕ) →
+    OneAnswer (counts nodes lane-numbers closed carriers order)
+check-counts-unique nodes lane-numbers closed carriers order =
+    judged-unique (counts nodes lane-numbers closed carriers order)
 
-pub check-lane-unique : (N : Network) (k : ℕ) → OneAnswer (only-at k (eachLane N))
-check-lane-unique N k = judged-unique (only-at k (eachLane N))
+pub check-lane-unique : (nodes : ℕ) (lanes : List ℕ) (k : ℕ) → OneAnswer (only-at k (eachLane nodes lanes))
+check-lane-unique nodes lanes k = judged-unique (only-at k (eachLane nodes lanes))
 
-pub check-lanes-unique : (N : Network) → OneAnswer (eachLane N ∷ [])
-check-lanes-unique N = judged-unique (eachLane N ∷ [])
+pub check-lanes-unique : (nodes : ℕ) (lanes : List ℕ) → OneAnswer (eachLane nodes lanes ∷ [])
+check-lanes-unique nodes lanes = judged-unique (eachLane nodes lanes ∷ [])
 
-pub check-entry-unique : (nodes : ℕ) (moves : List ℕ) (i : ℕ) →
-    OneAnswer (only-at i (eachMove (nodesOnly nodes) moves))
-check-entry-unique nodes moves i = judged-unique (only-at i (eachMove (nodesOnly nodes) moves))
+pub is-closed-unique : (closed : List ℕ) (node : ℕ) (r r′ : Bool) →
+    Answers r (Closed closed node) → Answers r′ (Closed closed node) → r ≡ r′
+is-closed-unique closed node = answers-unique (Closed closed node)
 
-pub check-moves-unique : (nodes : ℕ) (moves : List ℕ) → OneAnswer (eachMove (nodesOnly nodes) moves ∷ [])
-check-moves-unique nodes moves = judged-unique (eachMove (nodesOnly nodes) moves ∷ [])
+pub check-closed-node-unique : (nodes : ℕ) (closed : List ℕ) (k : ℕ) →
+    OneAnswer (only-at k (eachClosed nodes closed))
+check-closed-node-unique nodes closed k = judged-unique (only-at k (eachClosed nodes closed))
+
+pub check-closed-unique : (nodes : ℕ) (closed : List ℕ) → OneAnswer (eachClosed nodes closed ∷ [])
+check-closed-unique nodes closed = judged-unique (eachClosed nodes closed ∷ [])
+
+pub check-entry-unique : (nodes : ℕ) (closed moves : List ℕ) (i : ℕ) →
+    OneAnswer (only-at i (eachMove nodes closed moves))
+check-entry-unique nodes closed moves i = judged-unique (only-at i (eachMove nodes closed moves))
+
+pub check-moves-unique : (nodes : ℕ) (closed moves : List ℕ) → OneAnswer (eachMove nodes closed moves ∷ [])
+check-moves-unique nodes closed moves = judged-unique (eachMove nodes closed moves ∷ [])
 
 pub check-place-unique : (carriers : ℕ) (order : List ℕ) (p : ℕ) →
     OneAnswer (only-at p (eachOrderPlace carriers order))

@@ -52,22 +52,23 @@ module _ {N : Network} {s g : ℕ} {row : List ℕ} (down : Downhill N s g row) 
 
   module _ {u m : ℕ} (small : m ≤ 1023) where
     -- a neighbour with m lanes to go is in the row as such
-    pub next-of : (v : ℕ) → Lane (N .lanes) u v → Dist (floor N) v g m → Next N row u m v
+    pub next-of : (v : ℕ) → Lane (N .lanes) u v → Dist (floor N) v g m → Next (N .nodes) (N .lanes) row u m v
     next-of v l h =
-        let on : v < N .nodes = begins-on-node (h .walk) in
+        let on : v < N .nodes = begins-on-node (h .walk) .numbered in
         let back = distance small (dist-symmetric (lanes-symmetric N) h) in
         record { on-floor = on; lane = l; at-distance = distance-unique (down .distances v on) back }
 
-    pub next-distance : {v : ℕ} → Next N row u m v → Dist (floor N) v g m
+    pub next-distance : {v : ℕ} → Next (N .nodes) (N .lanes) row u m v → Dist (floor N) v g m
     next-distance {v} n =
         subst (λ (d : ℕ). Dist (floor N) v g d) (n .at-distance)
         (row-distance v (n .on-floor) (λ e. omega (arith, n .at-distance)))
 
     -- what `next_node` answers is such a neighbour
-    pub next-found : {v : ℕ} → Dist (floor N) u g (suc m) → LowestNext N row u m v → Next N row u m v
+    pub next-found : {v : ℕ} → Dist (floor N) u g (suc m) → LowestNext (N .nodes) (N .lanes) row u m v
+        → Next (N .nodes) (N .lanes) row u m v
     next-found {v} h n = cases (n .is-next)
       where
-        cases : (v ≡ noWalkMark) ⊎ Next N row u m v → Next N row u m v
+        cases : (v ≡ noWalkMark) ⊎ Next (N .nodes) (N .lanes) row u m v → Next (N .nodes) (N .lanes) row u m v
         cases (inr x) = x
         cases (inl e) =
             let b = first-lane h in

@@ -84,11 +84,11 @@ module _ {N : Network} {s g d : ℕ} {path₀ : List ℕ} {u left at : ℕ} {pat
   -- ---- one step more
 
   module _ {row : List ℕ} (down : Downhill N s g row) {m v : ℕ} (one-less : m + 1 ≡ left)
-      (n : LowestNext N row u m v) where
+      (n : LowestNext (N .nodes) (N .lanes) row u m v) where
     few-left : m ≤ 1023
     few-left = omega (arith, l .adds, l .small)
 
-    next : Next N row u m v
+    next : Next (N .nodes) (N .lanes) row u m v
     next = next-found down few-left (let e : left ≡ suc m = omega arith in rw e at distance-left) n
 
     rest : d - (at + 1) ≡ m

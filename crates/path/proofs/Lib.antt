@@ -1,6 +1,6 @@
 -- Laws of the questions about paths: what a sound move is like; neighbours and the house path as the loops go
 -- over them; a list against the terms of a shortest path. Last what the answers owe to each other: agreement,
--- one answer for each input, and what each answer tells exactly.
+-- one answer for each input, what each answer tells exactly, and that no path stands on a closed node.
 pub mod SoundMove
 pub mod LaneScan
 pub mod NextNode
@@ -11,3 +11,4 @@ pub mod Housing
 pub mod Agree
 pub mod Unique
 pub mod Exactly
+pub mod Closed

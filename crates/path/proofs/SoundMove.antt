@@ -1,9 +1,9 @@
--- What a network and a move without the faults 2 to 5 are like: the ends of the move and of each lane are
--- nodes, at most 1,024 of them. Each is the denial of one check, read off the list of stages. From there on
--- only 8 is left to be looked for: it is given exactly if no walk joins start and goal, which the row of
+-- What a network and a move that pass the checks before 8 are like: there are at most 1,024 nodes, and the
+-- ends of the move are among them. Each is the denial of one check, read off the list of stages. From there
+-- on only 8 is left to be looked for: it is given exactly if no walk joins start and goal, which the row of
 -- distances to the goal tells. Assumes nothing.
 use mathlib.Core.Path.{_≡_, refl}
-use mathlib.Core.Logic.{_⊎_, inl, inr, _≢_}
+use mathlib.Core.Logic.{inl, inr, _≢_}
 use mathlib.Core.List.{List}
 use Prim.Native.Nat.{ℕ, suc, _≤_, _<_}
 use native.Mathlib.Omega.{arith}
@@ -13,10 +13,8 @@ use Rattle.hall.specs.declared.Refusal.{Refusal}
 use Rattle.hall.specs.declared.Checked.{Checked}
 use Rattle.hall.specs.declared.Checked.the-variants.{Sound, Refused}
 use Rattle.hall.specs.Limits.{nodeLimit, noWalkMark}
-use Rattle.hall.specs.Floor.{Floor, NoWalk, DistanceIs, no-walk, distance}
-use Rattle.hall.specs.Floor.{Lane, laneCount, lower, higher, Network}
-use Rattle.hall.specs.Stages.{None, ClearAt, only-at}
-use Rattle.hall.specs.Refusals.{no-node}
+use Rattle.hall.specs.Floor.{Floor, NoWalk, DistanceIs, no-walk, distance, Network}
+use Rattle.hall.specs.Stages.{Stage, None, ClearAt, only-at}
 use Rattle.hall.specs.Questions.{ends, networkQuestion, moveEnds}
 use Rattle.hall.proofs.Walks.{reverse, lanes-symmetric}
 use Rattle.hall.proofs.Compose.{none-at-all, none-append, first-after, none-split}
@@ -36,14 +34,15 @@ marked-none (no-walk e none) h = none
 marked-none (distance small d) h = absurd (let x : ⊥ = omega arith in x)
 
 module _ (N : Network) (s g : ℕ) (sound : None (moveEnds N s g)) where
-  denied : DeniedNetwork N
-  denied =
-      network-denied N (none-split (networkQuestion N) (only-at 0 (ends N (λ i. s) (λ i. g))) sound .0)
+  -- 4, 5 and 13 of the move
+  abbrev move-checks : Stage
+  move-checks = ends (N .nodes) (N .closed) (λ i. s) (λ i. g)
 
-  denied-ends : ClearAt (ends N (λ i. s) (λ i. g)) 0
-  denied-ends =
-      none-only-at (ends N (λ i. s) (λ i. g)) 0
-      (none-split (networkQuestion N) (only-at 0 (ends N (λ i. s) (λ i. g))) sound .1)
+  denied : DeniedNetwork N
+  denied = network-denied N (none-split (networkQuestion N) (only-at 0 move-checks) sound .0)
+
+  denied-ends : ClearAt move-checks 0
+  denied-ends = none-only-at move-checks 0 (none-split (networkQuestion N) (only-at 0 move-checks) sound .1)
 
   pub few-nodes : N .nodes ≤ nodeLimit
   few-nodes = not-above nodeLimit (N .nodes) (λ h. denied .nodes (inr h))
@@ -53,24 +52,6 @@ module _ (N : Network) (s g : ℕ) (sound : None (moveEnds N s g)) where
 
   pub goal-node : g < N .nodes
   goal-node = not-above (N .nodes) (suc g) (λ h. denied-ends .0 (inr (omega arith)))
-
-  lower-node : (k : ℕ) → k < laneCount (N .lanes) → lower (N .lanes) k < N .nodes
-  lower-node k l =
-      not-above (N .nodes) (suc (lower (N .lanes) k)) (λ h. denied .lane k l (no-node (inl (omega arith))))
-
-  higher-node : (k : ℕ) → k < laneCount (N .lanes) → higher (N .lanes) k < N .nodes
-  higher-node k l =
-      not-above (N .nodes) (suc (higher (N .lanes) k)) (λ h. denied .lane k l (no-node (inr (omega arith))))
-
-  -- a lane leads to a node
-  pub lane-node : {a b : ℕ} → Lane (N .lanes) a b → b < N .nodes
-  lane-node {a} {b} l = cases (l .ends)
-    where
-      cases : ((lower (N .lanes) (l .k) ≡ a) × (higher (N .lanes) (l .k) ≡ b))
-          ⊎ ((lower (N .lanes) (l .k) ≡ b) × (higher (N .lanes) (l .k) ≡ a))
-          → b < N .nodes
-      cases (inl e) = omega (arith, e .1, higher-node (l .k) (l .inside))
-      cases (inr e) = omega (arith, e .0, lower-node (l .k) (l .inside))
 
   -- ---- what the distances to the goal tell
 

@@ -1,6 +1,7 @@
 -- What the rules say of a job is what `plan_moves` answers, for each of P1 to P11, for the cases of shared
--- ends (rule 11.14) and for every other job with an outcome (hall's Case.antt): lists that are not short
--- leave the question of planning that of the job, a first fault is one, and a plan is one. Assumes nothing.
+-- ends (rule 11.14) and of closed nodes (rule 11.15) and for every other job with an outcome (hall's
+-- Case.antt): lists that are not short leave the question of planning that of the job, a first fault is one,
+-- and a plan is one. Assumes nothing.
 --     AnsweredAs    what is said is that outcome: the cost, with the ticks that are left by carrier number,
 --                   or the refusal
 --     Answered      whatever is planned of the job of a case is answered as its outcome
@@ -10,11 +11,11 @@ use lib.ListN.{length, getD}
 use Rattle.hall.specs.Job.{Numbers, carriers}
 use Rattle.hall.specs.Said.{Said, accepted, refused}
 use Rattle.hall.specs.Plan.{tablesIn}
-use Rattle.hall.specs.Case.{Case, Outcome, Gives, Holds, cases, shared-cases}
+use Rattle.hall.specs.Case.{Case, Outcome, Gives, Holds, cases, shared-cases, closed-cases}
 use Rattle.hall.proofs.Stages.{first-unique, none-excludes}
 use Rattle.hall.proofs.Sound.{checks-of-none}
 use Rattle.hall.proofs.PlanLaws.{SamePlan, plan-unique}
-use Rattle.hall.proofs.Cases.{no-case, all-cases, all-shared-cases}
+use Rattle.hall.proofs.Cases.{no-case, all-cases, all-shared-cases, all-closed-cases}
 use Rattle.planner.specs.Planning.{Lent, ShortOf, Planning}
 use Rattle.planner.proofs.Faults.{none-of-job, job-first}
 
@@ -52,3 +53,7 @@ page-cases k h = answered (getD cases k no-case) (all-cases k h)
 -- shared lifts and chutes
 pub shared-answered : (k : ℕ) → k < length shared-cases → Answered (getD shared-cases k no-case)
 shared-answered k h = answered (getD shared-cases k no-case) (all-shared-cases k h)
+
+-- closed nodes
+pub closed-answered : (k : ℕ) → k < length closed-cases → Answered (getD closed-cases k no-case)
+closed-answered k h = answered (getD closed-cases k no-case) (all-closed-cases k h)

@@ -1,7 +1,7 @@
--- A job without the faults 2 to 7 is served by the crates below: its counts are within the limits, its ends
--- are nodes and its order lists each carrier once. So its table is filled with true distances. A carrier
--- whose own distance is 65,535 has no walk, and the lowest such is the first fault; if there is none, the job
--- has no fault, and the start ticks by that table are its plan. Assumes nothing.
+-- A job without a fault of its listed checks is served by the crates below: its counts are within the
+-- limits, its ends are open nodes and its order lists each carrier once. So its table is filled with true
+-- distances. A carrier whose own distance is 65,535 has no walk, and the lowest such is the first fault;
+-- if there is none, the job has no fault, and the start ticks by that table are its plan. Assumes nothing.
 use mathlib.Core.Path.{_≡_, refl, sym, _∙_, ap}
 use mathlib.Core.Logic.{inl, inr, _≢_}
 use mathlib.Core.Bool.{Bool, true, false}
@@ -25,6 +25,7 @@ use Rattle.tables.specs.declared.Reach.{Reach}
 use Rattle.tables.specs.declared.Reach.the-variants.{All, Lost}
 use Rattle.tables.specs.Filling.{TableFilled, Filling, NoneLost, looked, unserved}
 use Rattle.tables.specs.Filling.{saidReach, Reaching}
+use Rattle.tables.proofs.Blocks.{end-below}
 use Rattle.ticks.specs.Timing as timing
 use Rattle.ticks.specs.Timing.{Given, TicksUntouched, saidTimed, Timing}
 use Rattle.ticks.specs.declared.Timed as timing-type
@@ -60,7 +61,7 @@ module _ (j : Numbers) (sound : None (checksQuestion j)) where
     few-nodes = nodes-limit j sound;
     few-carriers = carriers-limit j sound;
     whole-table = whole;
-    on-floor = ends-on j sound;
+    on-floor = end-below (j .network) (ends-on j sound);
   }
 
   module _ (l : Lent) (c : Cleared l) (table′ : List ℕ) where

@@ -115,10 +115,11 @@ fn time_all(table: &[u16], order: &[u16], distances: &mut [u16], ticks: &mut [u3
     }
 }
 
-// A job without the faults 2 to 7: 8, or the plan.
+// A job without a fault of its listed checks: 8, or the plan.
 fn plan_sound(
     nodes: usize,
     lanes: &[u16],
+    closed: &[u16],
     moves: &[u16],
     order: &[u16],
     table: &mut [u16],
@@ -127,15 +128,17 @@ fn plan_sound(
 ) -> Planned
     requires { ⌜
         Cleared (lent (now table) (now distances) (now ticks))
-        × None (checksQuestion (jobOf (networkOf nodes (now lanes)) (now moves) (now order))) ⌝ }
+        × None (checksQuestion
+        (jobOf (networkOf nodes (now lanes) (now closed)) (now moves) (now order))) ⌝ }
     ensures { λ r. ⌜ Planning
-        (jobOf (networkOf nodes (now (lanes .entry))) (now (moves .entry)) (now (order .entry)))
+        (jobOf (networkOf nodes (now (lanes .entry)) (now (closed .entry)))
+        (now (moves .entry)) (now (order .entry)))
         (lent (now (table .entry)) (now (distances .entry)) (now (ticks .entry)))
         (lent (now (table .exit)) (now (distances .exit)) (now (ticks .exit)))
         (saidPlanned r) ⌝ }
 {
     let carriers = moves.len() / 2;
-    fill(nodes, lanes, moves, table);
+    fill(nodes, lanes, closed, moves, table);
     match first_unreached(table, carriers) {
         Reach::Lost(carrier) => {
             zero_first(table, Job::TABLE);
@@ -148,10 +151,11 @@ fn plan_sound(
     }
 }
 
-// Over lent lists whose least lengths are zero: 2 to 7, then the rest.
+// Over lent lists whose least lengths are zero: the listed checks, then the rest.
 fn plan_cleared(
     nodes: usize,
     lanes: &[u16],
+    closed: &[u16],
     moves: &[u16],
     order: &[u16],
     table: &mut [u16],
@@ -160,16 +164,17 @@ fn plan_cleared(
 ) -> Planned
     requires { ⌜ Cleared (lent (now table) (now distances) (now ticks)) ⌝ }
     ensures { λ r. ⌜ Planning
-        (jobOf (networkOf nodes (now (lanes .entry))) (now (moves .entry)) (now (order .entry)))
+        (jobOf (networkOf nodes (now (lanes .entry)) (now (closed .entry)))
+        (now (moves .entry)) (now (order .entry)))
         (lent (now (table .entry)) (now (distances .entry)) (now (ticks .entry)))
         (lent (now (table .exit)) (now (distances .exit)) (now (ticks .exit)))
         (saidPlanned r) ⌝ }
 {
-    let judged = check_job(nodes, lanes, moves, order);
+    let judged = check_job(nodes, lanes, closed, moves, order);
     if let Checked::Refused(refusal) = judged {
         return Planned::Refused(refusal);
     }
-    plan_sound(nodes, lanes, moves, order, table, distances, ticks)
+    plan_sound(nodes, lanes, closed, moves, order, table, distances, ticks)
 }
 
 // The plan of a job: its table, its carriers' distances and start ticks, and its cost; or the first refusal.
@@ -177,6 +182,7 @@ fn plan_cleared(
 pub fn plan_moves(
     nodes: usize,
     lanes: &[u16],
+    closed: &[u16],
     moves: &[u16],
     order: &[u16],
     table: &mut [u16],
@@ -184,7 +190,8 @@ pub fn plan_moves(
     ticks: &mut [u32],
 ) -> Planned
     ensures { λ r. ⌜ Planning
-        (jobOf (networkOf nodes (now (lanes .entry))) (now (moves .entry)) (now (order .entry)))
+        (jobOf (networkOf nodes (now (lanes .entry)) (now (closed .entry)))
+        (now (moves .entry)) (now (order .entry)))
         (lent (now (table .entry)) (now (distances .entry)) (now (ticks .entry)))
         (lent (now (table .exit)) (now (distances .exit)) (now (ticks .exit)))
         (saidPlanned r) ⌝ }
@@ -195,5 +202,5 @@ pub fn plan_moves(
     zero_first(table, Job::TABLE);
     zero_first(distances, Job::CARRIERS);
     zero_ticks(ticks);
-    plan_cleared(nodes, lanes, moves, order, table, distances, ticks)
+    plan_cleared(nodes, lanes, closed, moves, order, table, distances, ticks)
 }

@@ -2,7 +2,6 @@
 -- proofs/Tables.antt), and the loop over the lines is these steps one after the other. The loop's invariant
 -- hands on what holds at its beginning, for whatever was read before; the line of the cursor follows from the
 -- form alone. The measure is how many lines are left. Assumes nothing.
---     two-numbers         a line is one of a lane or of a move, so it has two numbers
 --     stored-one, stored-two, not-stored    an entry's line was taken and its numbers stored, or there is
 --                         none
 --     entry-passes, entry-fails, entry-lacks    the line of an entry, by the answer of its checks
@@ -11,13 +10,10 @@
 --     line-after          behind a line to which the form leads, the line is one more: it is below the limit
 --                         up to which a cursor counts
 use mathlib.Core.Path.{_≡_, refl, sym, _∙_, ap, subst}
-use mathlib.Core.Logic.{inl, inr}
 use mathlib.Core.List.{List, [], _∷_, _++_}
 use Prim.Native.Nat.{ℕ, suc, _+_, _*_, _-_, _≤_, _<_, min}
 use native.Mathlib.Numerals.{add-one}
 use native.Mathlib.Omega.{arith}
-use types.Run.{OneOf}
-use denote.Enum.Declared.{tagOf}
 use lib.ListN.{length, take, drop, set}
 use lib.Seq.{drop-set-lt, drop-drop}
 use Rattle.hall.specs.declared.Fault.the-variants.{Malformed}
@@ -25,74 +21,25 @@ use Rattle.hall.specs.declared.Job.{Job}
 use Rattle.hall.specs.declared.Refusal.{Refusal}
 use Rattle.hall.specs.declared.Checked.{Checked}
 use Rattle.hall.specs.declared.Checked.the-variants.{Sound}
-use Rattle.hall.specs.Floor.{laneCount, networkOf, nodesOnly}
-use Rattle.hall.specs.Job.{moveCount}
 use Rattle.hall.specs.Stages.{only-at, at-each}
 use Rattle.hall.specs.Said.{Judged}
-use Rattle.hall.specs.Questions.{laneChecks, moveChecks, orderChecks}
 use Rattle.form.specs.Lines.{Entered}
-use Rattle.form.specs.Sections.{Form, Content, due}
-use Rattle.form.specs.Entries.{checksOf}
+use Rattle.form.specs.Sections.{Form, Content}
 use Rattle.form.specs.Stands.{Stand, within}
 use Rattle.form.specs.JobText.{jobText}
 use Rattle.form.specs.Reached.{Reached, Collected}
-use Rattle.form.proofs.WholeChecks.{Steady}
-use Rattle.form.proofs.Checks.{lanes-steady, carriers-steady, order-steady}
 use Rattle.form.proofs.Tables.{collected-start, collected-lacking, checked-entry, checked-refused}
 use Rattle.form.proofs.Tables.{stores-one, stores-two}
 use Rattle.form.proofs.Lengths.{reached-within}
 use Rattle.form.proofs.JobTexts.{job-room}
 use Rattle.cursor.specs.declared.Cursor.{Cursor}
 use Rattle.reader.specs.declared.lines.Entries.{Entries}
-use Rattle.reader.specs.declared.lines.Entries.the-variants.{Lanes, Moves, Places}
-use Rattle.reader.proofs.lines.Entries as entries
 use Rattle.reader.specs.declared.lines.Passed.{Passed}
 use Rattle.reader.specs.declared.lines.Progress.{Progress}
 use Rattle.cursor.specs.Steps.{lineLimit, EntryTaken}
 use Rattle.reader.specs.Entries.{RefusedBy, Asks, sectionOf, checksIn, placesIn, EntryStored}
 use Rattle.reader.specs.Entries.{EntryRead, EntriesRead}
-
--- ---- which section
-
-pub two-numbers : (which : Entries) → OneOf (0 ∷ 1 ∷ []) (tagOf entries.the-type which)
-    → sectionOf which .size ≡ 2
-two-numbers Lanes h = refl
-two-numbers Moves h = refl
-two-numbers Places (inl e) = absurd (let x : ⊥ = omega arith in x)
-two-numbers Places (inr e) = absurd (let x : ⊥ = omega arith in x)
-
-pub due-is : (which : Entries) (n : ℕ) → due (sectionOf which) n ≡ n
-due-is Lanes n = refl
-due-is Moves n = refl
-due-is Places n = refl
-
-steady : (which : Entries) → Steady (sectionOf which)
-steady Lanes = lanes-steady
-steady Moves = carriers-steady
-steady Places = order-steady
-
-has-place : (which : Entries) (table : List ℕ) (k : ℕ) → sectionOf which .size * suc k ≤ length table
-    → k < placesIn which table
-has-place Lanes table k h = omega arith
-has-place Moves table k h = omega arith
-has-place Places table k h = omega arith
-
--- so many entries take so many numbers
-further-numbers : (which : Entries) (k n : ℕ) → k ≤ n → sectionOf which .size * k ≤ sectionOf which .size * n
-further-numbers Lanes k n h = omega arith
-further-numbers Moves k n h = omega arith
-further-numbers Places k n h = omega arith
-
-judged-by-form : (which : Entries) (job : Job) (read : List Content) (table : List ℕ) (k : ℕ) (c : Checked)
-    → Asks (sectionOf which .entry) job read
-    → Judged (only-at k (at-each (placesIn which table) (checksIn which job table))) c
-    → Judged (only-at k (at-each (placesIn which table) (checksOf (sectionOf which .entry) read table))) c
-judged-by-form Lanes job read table k c e j =
-    subst (λ (n : ℕ). Judged (only-at k (at-each (laneCount table) (laneChecks (networkOf n table)))) c) e j
-judged-by-form Moves job read table k c e j =
-    subst (λ (n : ℕ). Judged (only-at k (at-each (moveCount table) (moveChecks (nodesOnly n) table))) c) e j
-judged-by-form Places job read table k c e j =
-    subst (λ (n : ℕ). Judged (only-at k (at-each (length table) (orderChecks n table))) c) (e .0) j
+use Rattle.reader.proofs.EntryKinds.{due-is, steady, has-place, further-numbers, judged-by-form}
 
 -- ---- the next line
 
@@ -133,10 +80,11 @@ module _ (text : List ℕ) (k : ℕ) (here : Cursor) (table : List ℕ) where
 
 -- ---- its checks
 
-module _ (text : List ℕ) (which : Entries) (job : Job) (k : ℕ) (here : Cursor) (before after : List ℕ) where
+module _ (text : List ℕ) (which : Entries) (job : Job) (closed : List ℕ) (k : ℕ) (here : Cursor)
+    (before after : List ℕ) where
   pub entry-lacks : (q : Refusal)
       → EntryStored text (sectionOf which .size) k here before after (Passed.Refused q)
-      → EntryRead text which job k here before after (Passed.Refused q)
+      → EntryRead text which job closed k here before after (Passed.Refused q)
   entry-lacks q st = record {
     reads = λ read count left asks inside x.
         subst (RefusedBy text) (sym (st .answer .0))
@@ -148,26 +96,26 @@ module _ (text : List ℕ) (which : Entries) (job : Job) (k : ℕ) (here : Curso
   module _ (next : Cursor)
       (st : EntryStored text (sectionOf which .size) k here before after (Passed.On next))
       (room : sectionOf which .size * suc k ≤ length after) (c : Checked)
-      (judged : Judged (only-at k (at-each (placesIn which after) (checksIn which job after))) c) where
-    pub entry-passes : c ≡ Sound → EntryRead text which job k here before after (Passed.On next)
+      (judged : Judged (only-at k (at-each (placesIn which after) (checksIn which job closed after))) c) where
+    pub entry-passes : c ≡ Sound → EntryRead text which job closed k here before after (Passed.On next)
     entry-passes e = record {
       reads = λ read count left asks inside x.
           rw (← st .answer .behind .is-rest, line-after (x .reached) (st .answer .behind .next-line))
           (checked-entry jobText text read (sectionOf which) count left x (rw (due-is which count) inside)
           (st .answer .entered) after (st .answer .stores) (steady which) (placesIn which after)
-          (has-place which after k room) e (judged-by-form which job read after k c asks judged));
+          (has-place which after k room) e (judged-by-form which job closed read after k c asks judged));
       kept = st .kept;
     }
 
     pub entry-fails : (r q : Refusal) → c ≡ Checked.Refused r
         → q ≡ record { fault = r .fault; place = here .line }
-        → EntryRead text which job k here before after (Passed.Refused q)
+        → EntryRead text which job closed k here before after (Passed.Refused q)
     entry-fails r q e at-line = record {
       reads = λ read count left asks inside x.
           subst (RefusedBy text) (sym at-line)
           (checked-refused jobText text read (sectionOf which) count left x (rw (due-is which count) inside)
           (st .answer .entered) after (st .answer .stores) (steady which) (placesIn which after)
-          (has-place which after k room) e (judged-by-form which job read after k c asks judged));
+          (has-place which after k room) e (judged-by-form which job closed read after k c asks judged));
       kept = st .kept;
     }
 
@@ -178,11 +126,11 @@ drop-further m n s t h e =
     let split : m + (n - m) ≡ n = omega arith in
     rw (← split) (sym (drop-drop (n - m) m s) ∙ ap (drop (n - m)) e ∙ drop-drop (n - m) m t)
 
-pub record LinesRead (text : List ℕ) (which : Entries) (job : Job) (count : ℕ) (from : Cursor)
-    (before after : List ℕ) (here : Cursor) (k : ℕ) : Type 0 where
+pub record LinesRead (text : List ℕ) (which : Entries) (job : Job) (closed : List ℕ) (count : ℕ)
+    (from : Cursor) (before after : List ℕ) (here : Cursor) (k : ℕ) : Type 0 where
   -- k entries are in the table, and the cursor stands behind them with its line
   pub collected : (read : List Content) (left : Form)
-      → Asks (sectionOf which .entry) job read
+      → Asks (sectionOf which .entry) job closed read
       → Reached jobText text (within read (sectionOf which) count [] left) (drop (from .at) text) (from .line)
       → Collected jobText text read (sectionOf which) count left k after (drop (here .at) text) (here .line)
   -- places behind those of all the entries are as they were
@@ -190,8 +138,9 @@ pub record LinesRead (text : List ℕ) (which : Entries) (job : Job) (count : �
   pub few : k ≤ count
   pub size : length after ≡ length before
 
-module _ (text : List ℕ) (which : Entries) (job : Job) (count : ℕ) (from : Cursor) (before : List ℕ) where
-  pub lines-begin : LinesRead text which job count from before before from 0
+module _ (text : List ℕ) (which : Entries) (job : Job) (closed : List ℕ) (count : ℕ) (from : Cursor)
+    (before : List ℕ) where
+  pub lines-begin : LinesRead text which job closed count from before before from 0
   lines-begin = record {
     collected = λ read left asks r. collected-start jobText text read (sectionOf which) count left before r;
     kept = refl;
@@ -200,13 +149,13 @@ module _ (text : List ℕ) (which : Entries) (job : Job) (count : ℕ) (from : C
   }
 
   module _ (after : List ℕ) (here : Cursor) (k : ℕ)
-      (l : LinesRead text which job count from before after here k) where
+      (l : LinesRead text which job closed count from before after here k) where
     pub room-here : k < count → sectionOf which .size * count ≤ length before
         → sectionOf which .size * suc k ≤ length after
     room-here h room = omega (arith, further-numbers which (suc k) count h, l .size)
 
     pub lines-end : count ≤ k
-        → EntriesRead text which job count from before after (Progress.On (record { job = job; next = here }))
+        → EntriesRead text which job closed count from before after (Progress.On (record { job = job; next = here }))
     lines-end h = record {
       reads = λ read left asks r.
           let e : k ≡ count = omega (arith, l .few) in
@@ -222,8 +171,8 @@ module _ (text : List ℕ) (which : Entries) (job : Job) (count : ℕ) (from : C
           (further-numbers which (suc k) count inside) e ∙ l .kept
 
       pub lines-next : (next : Cursor) → length after′ ≡ length after
-          → EntryRead text which job k here after after′ (Passed.On next)
-          → LinesRead text which job count from before after′ next (k + 1)
+          → EntryRead text which job closed k here after after′ (Passed.On next)
+          → LinesRead text which job closed count from before after′ next (k + 1)
       lines-next next same x = record {
         collected = λ read left asks r. rw (add-one k)
             (x .reads read count left asks inside (l .collected read left asks r));
@@ -232,8 +181,8 @@ module _ (text : List ℕ) (which : Entries) (job : Job) (count : ℕ) (from : C
         size = same ∙ l .size;
       }
 
-      pub lines-refused : (q : Refusal) → EntryRead text which job k here after after′ (Passed.Refused q)
-          → EntriesRead text which job count from before after′ (Progress.Refused q)
+      pub lines-refused : (q : Refusal) → EntryRead text which job closed k here after after′ (Passed.Refused q)
+          → EntriesRead text which job closed count from before after′ (Progress.Refused q)
       lines-refused q x = record {
         reads = λ read left asks r. x .reads read count left asks inside (l .collected read left asks r);
         kept = still-kept (x .kept);

@@ -1,12 +1,12 @@
 -- The promise of `read_numbers` in both directions: whatever fits it is refused with a number at a line
 -- exactly when there is that reason, and accepted exactly when the text writes a job, as that job. And the
--- first 42,001 bytes of a text have the same answer and leave the same tables (rule 7.7), since no accepted
+-- first 47,133 bytes of a text have the same answer and leave the same tables (rule 7.7), since no accepted
 -- text is that long. Assumes nothing.
 --     refused-exactly     refused with this number at this line, exactly when
 --     refused-by-form     with long enough tables: exactly when the form refuses the text so
 --     accepted-exactly    accepted, exactly when tables are long enough and the text writes a job
 --     accepted-as         then with the job's counts, and the tables are filled with its numbers
---     first-bytes         what fits the first 42,001 bytes of a text fits the text, and the other way round
+--     first-bytes         what fits the first 47,133 bytes of a text fits the text, and the other way round
 --     first-bytes-read    they have the same answer and leave the same tables
 use mathlib.Core.Path.{_≡_, _∙_, ap}
 use mathlib.Core.Logic.{_↔_}
@@ -15,14 +15,14 @@ use Prim.Native.Nat.{ℕ}
 use native.Mathlib.Omega.{arith}
 use lib.ListN.{take}
 use Rattle.hall.specs.declared.Job.{Job}
-use Rattle.hall.specs.Limits.{carrierLimit, laneNumbers, moveNumbers}
+use Rattle.hall.specs.Limits.{nodeLimit, carrierLimit, laneNumbers, moveNumbers}
 use Rattle.hall.specs.Job.{Numbers}
 use Rattle.hall.specs.Said.{Said, accepted, refused}
 use Rattle.hall.specs.Left.{filled}
 use Rattle.form.specs.Texts.{Refused}
 use Rattle.form.specs.JobText.{jobText}
 use Rattle.form.specs.Jobs.{WrittenJob}
-use Rattle.form.proofs.JobTexts.{job-unique, first-42001}
+use Rattle.form.proofs.JobTexts.{job-unique, first-47133}
 use Rattle.reader.specs.declared.Read.{Read}
 use Rattle.reader.specs.Reading.{saidRead, countsOf, AnyShort, ReadInto}
 use Rattle.reader.specs.Reading.{Reason, short, faulty}
@@ -36,23 +36,23 @@ by-form text n line long (faulty h r) = r
 
 -- the first bytes of a text give the same reasons
 pub first-bytes-reason : {Short : Type 0} (text : List ℕ) (n line : ℕ)
-    → Reason Short (take 42001 text) n line ↔ Reason Short text n line
+    → Reason Short (take 47133 text) n line ↔ Reason Short text n line
 first-bytes-reason {Short} text n line = (onward, back)
   where
-    onward : Reason Short (take 42001 text) n line → Reason Short text n line
+    onward : Reason Short (take 47133 text) n line → Reason Short text n line
     onward (short h a b) = short h a b
-    onward (faulty h r) = faulty h (first-42001 text (refused n line) .0 r)
+    onward (faulty h r) = faulty h (first-47133 text (refused n line) .0 r)
 
-    back : Reason Short text n line → Reason Short (take 42001 text) n line
+    back : Reason Short text n line → Reason Short (take 47133 text) n line
     back (short h a b) = short h a b
-    back (faulty h r) = faulty h (first-42001 text (refused n line) .1 r)
+    back (faulty h r) = faulty h (first-47133 text (refused n line) .1 r)
 
-module _ (text lanes moves order l m o : List ℕ) where
-  pub refused-exactly : (s : Said Job) → ReadInto text lanes moves order l m o s → (n line : ℕ)
-      → (s ≡ refused n line) ↔ Reason (AnyShort lanes moves order) text n line
+module _ (text lanes closed moves order l c m o : List ℕ) where
+  pub refused-exactly : (s : Said Job) → ReadInto text lanes closed moves order l c m o s → (n line : ℕ)
+      → (s ≡ refused n line) ↔ Reason (AnyShort lanes closed moves order) text n line
   refused-exactly (accepted counts) x n line = (
     λ e. absurd (let z : _≡_ {A = ℕ} 0 1 = cc in omega arith),
-    λ why. absurd (accepted-refused text lanes moves order l m o counts n line x why),
+    λ why. absurd (accepted-refused text lanes closed moves order l c m o counts n line x why),
   )
   refused-exactly (refused k at) x n line = (
     λ e.
@@ -64,17 +64,18 @@ module _ (text lanes moves order l m o : List ℕ) where
         λ i. refused (e .0 i) (e .1 i),
   )
 
-  module _ (long : ¬ AnyShort lanes moves order) where
-    pub refused-by-form : (s : Said Job) → ReadInto text lanes moves order l m o s → (n line : ℕ)
+  module _ (long : ¬ AnyShort lanes closed moves order) where
+    pub refused-by-form : (s : Said Job) → ReadInto text lanes closed moves order l c m o s → (n line : ℕ)
         → (s ≡ refused n line) ↔ Refused jobText text n line
     refused-by-form s x n line =
         let iff = refused-exactly s x n line in
         (λ e. by-form text n line long (iff .0 e), λ r. iff .1 (faulty long r))
 
-    pub accepted-as : (s : Said Job) → ReadInto text lanes moves order l m o s
+    pub accepted-as : (s : Said Job) → ReadInto text lanes closed moves order l c m o s
         → (j : Numbers) → WrittenJob text j
         → (s ≡ accepted (countsOf j))
         × (l ≡ filled (j .network .lanes) laneNumbers lanes)
+        × (c ≡ filled (j .network .closed) nodeLimit closed)
         × (m ≡ filled (j .moves) moveNumbers moves)
         × (o ≡ filled (j .order) carrierLimit order)
     accepted-as (refused n line) x j w = absurd (no-reason text j n line long w (x .reason))
@@ -82,44 +83,47 @@ module _ (text lanes moves order l m o : List ℕ) where
         let e = job-unique text (x .job) j (x .writes) w in (
           ap accepted (x .is-counts ∙ ap countsOf e),
           x .lanes-left ∙ ap (λ (k : Numbers). filled (k .network .lanes) laneNumbers lanes) e,
+          x .closed-left ∙ ap (λ (k : Numbers). filled (k .network .closed) nodeLimit closed) e,
           x .moves-left ∙ ap (λ (k : Numbers). filled (k .moves) moveNumbers moves) e,
           x .order-left ∙ ap (λ (k : Numbers). filled (k .order) carrierLimit order) e,
         )
 
-  pub accepted-exactly : (s : Said Job) → ReadInto text lanes moves order l m o s
+  pub accepted-exactly : (s : Said Job) → ReadInto text lanes closed moves order l c m o s
       → ((counts : Job) × (s ≡ accepted counts))
-      ↔ ((¬ AnyShort lanes moves order) × ((j : Numbers) × WrittenJob text j))
+      ↔ ((¬ AnyShort lanes closed moves order) × ((j : Numbers) × WrittenJob text j))
   accepted-exactly s x = (
     λ a. written s (a .0) (a .1) x,
     λ w. (countsOf (w .1 .0), accepted-as (w .0) s x (w .1 .0) (w .1 .1) .0),
   )
     where
-      written : (s : Said Job) (counts : Job) → s ≡ accepted counts → ReadInto text lanes moves order l m o s
-          → (¬ AnyShort lanes moves order) × ((j : Numbers) × WrittenJob text j)
+      written : (s : Said Job) (counts : Job) → s ≡ accepted counts → ReadInto text lanes closed moves order l c m o s
+          → (¬ AnyShort lanes closed moves order) × ((j : Numbers) × WrittenJob text j)
       written (accepted k) counts e x = (x .long, (x .job, x .writes))
       written (refused n line) counts e x = absurd (let z : _≡_ {A = ℕ} 0 1 = cc in omega arith)
 
 -- ---- long texts
 
-module _ (text lanes moves order l m o : List ℕ) where
+module _ (text lanes closed moves order l c m o : List ℕ) where
   pub first-bytes : (s : Said Job)
-      → ReadInto (take 42001 text) lanes moves order l m o s ↔ ReadInto text lanes moves order l m o s
+      → ReadInto (take 47133 text) lanes closed moves order l c m o s ↔ ReadInto text lanes closed moves order l c m o s
   first-bytes (accepted counts) = (
     λ x. record {
       long = x .long;
       job = x .job;
-      writes = first-42001 text (accepted (x .job)) .0 (x .writes);
+      writes = first-47133 text (accepted (x .job)) .0 (x .writes);
       is-counts = x .is-counts;
       lanes-left = x .lanes-left;
+      closed-left = x .closed-left;
       moves-left = x .moves-left;
       order-left = x .order-left;
     },
     λ x. record {
       long = x .long;
       job = x .job;
-      writes = first-42001 text (accepted (x .job)) .1 (x .writes);
+      writes = first-47133 text (accepted (x .job)) .1 (x .writes);
       is-counts = x .is-counts;
       lanes-left = x .lanes-left;
+      closed-left = x .closed-left;
       moves-left = x .moves-left;
       order-left = x .order-left;
     },
@@ -128,20 +132,22 @@ module _ (text lanes moves order l m o : List ℕ) where
     λ x. record {
       reason = first-bytes-reason text n line .0 (x .reason);
       lanes-left = x .lanes-left;
+      closed-left = x .closed-left;
       moves-left = x .moves-left;
       order-left = x .order-left;
     },
     λ x. record {
       reason = first-bytes-reason text n line .1 (x .reason);
       lanes-left = x .lanes-left;
+      closed-left = x .closed-left;
       moves-left = x .moves-left;
       order-left = x .order-left;
     },
   )
 
-  pub first-bytes-read : (r r′ : Read) (l′ m′ o′ : List ℕ)
-      → ReadInto (take 42001 text) lanes moves order l m o (saidRead r)
-      → ReadInto text lanes moves order l′ m′ o′ (saidRead r′)
-      → (r ≡ r′) × (l ≡ l′) × (m ≡ m′) × (o ≡ o′)
-  first-bytes-read r r′ l′ m′ o′ x y =
-      read-unique text lanes moves order l l′ m m′ o o′ r r′ (first-bytes (saidRead r) .0 x) y
+  pub first-bytes-read : (r r′ : Read) (l′ c′ m′ o′ : List ℕ)
+      → ReadInto (take 47133 text) lanes closed moves order l c m o (saidRead r)
+      → ReadInto text lanes closed moves order l′ c′ m′ o′ (saidRead r′)
+      → (r ≡ r′) × (l ≡ l′) × (c ≡ c′) × (m ≡ m′) × (o ≡ o′)
+  first-bytes-read r r′ l′ c′ m′ o′ x y =
+      read-unique text lanes closed moves order l l′ c c′ m m′ o o′ r r′ (first-bytes (saidRead r) .0 x) y

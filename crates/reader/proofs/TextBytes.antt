@@ -11,13 +11,15 @@ use Rattle.hall.specs.Job.{Numbers}
 use Rattle.put.specs.Digits.{digits}
 use Rattle.put.proofs.Digits.{AllDigits, digits-each}
 use Rattle.form.specs.Lines.{further, entryLine, countLine, entryLines}
+use Rattle.form.specs.Sections.{Content}
 use Rattle.form.specs.Contents.{written}
-use Rattle.form.specs.Jobs.{pairs, singles, contentsOf, WrittenJob}
+use Rattle.form.specs.Jobs.{pairs, singles, closedContents, contentsOf, WrittenJob}
 use Rattle.cursor.specs.declared.bytes.Kind.{Kind}
 use Rattle.cursor.specs.declared.bytes.Kind.the-variants.{Digit, Space, LineFeed, Capital, Other}
 use Rattle.cursor.specs.Bytes.{kindOf, Capitals}
 use Rattle.cursor.proofs.ByteKinds.{kind-digit, kind-space, kind-line-feed, kind-capital}
-use Rattle.reader.proofs.Words.{nodes-capitals, lanes-capitals, carriers-capitals, order-capitals}
+use Rattle.reader.proofs.Words.{nodes-capitals, lanes-capitals, closed-capitals, carriers-capitals}
+use Rattle.reader.proofs.Words.{order-capitals}
 
 abbrev pub Known : List ℕ → Type 0
 Known [] = Unit
@@ -86,13 +88,20 @@ section-known w n es rest c k =
     let whole = known-append (w ++ further (n ∷ [])) (entryLines es) line (entries-known es) in
     known-append ((w ++ further (n ∷ [])) ++ entryLines es) rest whole k
 
+closed-known : (closed : List ℕ) (rest : List Content) → Known (written rest)
+    → Known (written (closedContents closed ++ rest))
+unfolding written
+closed-known [] rest k = k
+closed-known (v ∷ l) rest k = section-known _ _ (singles (v ∷ l)) _ closed-capitals k
+
 job-known : (j : Numbers) → Known (written (contentsOf j))
 unfolding written
 job-known j =
-    let order = section-known _ _ (singles (j .order)) [] order-capitals tt in
-    let moves = section-known _ _ (pairs (j .moves)) _ carriers-capitals order in
-    let lanes = section-known _ _ (pairs (j .network .lanes)) _ lanes-capitals moves in
-    section-known _ _ [] _ nodes-capitals lanes
+    section-known _ _ [] _ nodes-capitals
+    (section-known _ _ (pairs (j .network .lanes)) _ lanes-capitals
+    (closed-known (j .network .closed) _
+    (section-known _ _ (pairs (j .moves)) _ carriers-capitals
+    (section-known _ _ (singles (j .order)) [] order-capitals tt))))
 
 pub accepted-kinds : (t : List ℕ) (j : Numbers) → WrittenJob t j → Known t
 accepted-kinds t j w = subst Known (sym (w .writes)) (job-known j)

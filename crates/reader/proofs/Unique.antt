@@ -46,30 +46,31 @@ pub no-reason : {Short : Type 0} (text : List ℕ) (j : Numbers) (n line : ℕ) 
 no-reason text j n line long w (short h a b) = long h
 no-reason text j n line long w (faulty h r) = never-both text j n line w r
 
-module _ (text lanes moves order : List ℕ) where
-  pub accepted-refused : (l m o : List ℕ) (counts : Job) (n line : ℕ)
-      → AcceptedAs text lanes moves order l m o counts → ¬ Reason (AnyShort lanes moves order) text n line
-  accepted-refused l m o counts n line x = no-reason text (x .job) n line (x .long) (x .writes)
+module _ (text lanes closed moves order : List ℕ) where
+  pub accepted-refused : (l c m o : List ℕ) (counts : Job) (n line : ℕ)
+      → AcceptedAs text lanes closed moves order l c m o counts
+      → ¬ Reason (AnyShort lanes closed moves order) text n line
+  accepted-refused l c m o counts n line x = no-reason text (x .job) n line (x .long) (x .writes)
 
-  module _ (l l′ m m′ o o′ : List ℕ) where
+  module _ (l l′ c c′ m m′ o o′ : List ℕ) where
     pub said-unique : (s s′ : Said Job)
-        → ReadInto text lanes moves order l m o s
-        → ReadInto text lanes moves order l′ m′ o′ s′
-        → (s ≡ s′) × (l ≡ l′) × (m ≡ m′) × (o ≡ o′)
+        → ReadInto text lanes closed moves order l c m o s
+        → ReadInto text lanes closed moves order l′ c′ m′ o′ s′
+        → (s ≡ s′) × (l ≡ l′) × (c ≡ c′) × (m ≡ m′) × (o ≡ o′)
     said-unique (accepted i) (accepted j) x y =
         let e = job-unique text (x .job) (y .job) (x .writes) (y .writes) in
-        (ap accepted (x .is-counts ∙ ap countsOf e ∙ sym (y .is-counts)), (cc), (cc), (cc))
-    said-unique (accepted i) (refused n line) x y = absurd (accepted-refused l m o i n line x (y .reason))
-    said-unique (refused n line) (accepted j) x y = absurd (accepted-refused l′ m′ o′ j n line y (x .reason))
+        (ap accepted (x .is-counts ∙ ap countsOf e ∙ sym (y .is-counts)), (cc), (cc), (cc), (cc))
+    said-unique (accepted i) (refused n line) x y = absurd (accepted-refused l c m o i n line x (y .reason))
+    said-unique (refused n line) (accepted j) x y = absurd (accepted-refused l′ c′ m′ o′ j n line y (x .reason))
     said-unique (refused n line) (refused n′ line′) x y =
         let e = reason-unique text n n′ line line′ (x .reason) (y .reason) in
         let number = e .0 in
-        ((λ i. refused (e .0 i) (e .1 i)), (cc), (cc), (cc))
+        ((λ i. refused (e .0 i) (e .1 i)), (cc), (cc), (cc), (cc))
 
     pub read-unique : (r r′ : Read)
-        → ReadInto text lanes moves order l m o (saidRead r)
-        → ReadInto text lanes moves order l′ m′ o′ (saidRead r′)
-        → (r ≡ r′) × (l ≡ l′) × (m ≡ m′) × (o ≡ o′)
+        → ReadInto text lanes closed moves order l c m o (saidRead r)
+        → ReadInto text lanes closed moves order l′ c′ m′ o′ (saidRead r′)
+        → (r ≡ r′) × (l ≡ l′) × (c ≡ c′) × (m ≡ m′) × (o ≡ o′)
     read-unique r r′ x y =
         let e = said-unique (saidRead r) (saidRead r′) x y in
-        (said-read-one r r′ (e .0), e .1, e .2, e .3)
+        (said-read-one r r′ (e .0), e .1, e .2, e .3, e .4)

@@ -1,7 +1,7 @@
 -- The letters of the sections' words are capital letters, as `count` requires. Each by its bytes. Assumes
 -- nothing.
 use native.Mathlib.Omega.{arith}
-use Rattle.form.specs.Words.{NODES, LANES, CARRIERS, ORDER}
+use Rattle.form.specs.Words.{NODES, LANES, CLOSED, CARRIERS, ORDER}
 use Rattle.cursor.specs.Bytes.{Capitals}
 
 pub nodes-capitals : Capitals NODES
@@ -11,6 +11,10 @@ nodes-capitals = omega arith
 pub lanes-capitals : Capitals LANES
 unfolding LANES
 lanes-capitals = omega arith
+
+pub closed-capitals : Capitals CLOSED
+unfolding CLOSED
+closed-capitals = omega arith
 
 pub carriers-capitals : Capitals CARRIERS
 unfolding CARRIERS

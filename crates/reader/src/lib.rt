@@ -7,6 +7,8 @@ use crate::lines::Progress;
 use crate::lines::State;
 use crate::sections::at_end;
 use crate::sections::carriers_section;
+use crate::sections::closed_count;
+use crate::sections::closed_section;
 use crate::sections::lanes_section;
 use crate::sections::nodes_section;
 use crate::sections::order_section;
@@ -16,7 +18,7 @@ use hall::Job;
 use hall::Refusal;
 use hall::zero::zero_first;
 ghost use mathlib.Core.Path.{_≡_};
-ghost use Rattle.hall.specs.Limits.{carrierLimit, laneNumbers, moveNumbers};
+ghost use Rattle.hall.specs.Limits.{nodeLimit, carrierLimit, laneNumbers, moveNumbers};
 ghost use Rattle.hall.specs.Left.{zeroed};
 ghost use Rattle.hall.specs.Rule.{Answers};
 ghost use Rattle.reader.specs.Reading.{saidRead, TooShort, ReadInto};
@@ -36,10 +38,13 @@ pub enum Read {
 }
 
 // Whether a table of those lengths is shorter than its least length.
-fn too_short(lanes: usize, moves: usize, order: usize) -> bool
-    ensures { λ r. ⌜ Answers r (TooShort lanes moves order) ⌝ }
+fn too_short(lanes: usize, closed: usize, moves: usize, order: usize) -> bool
+    ensures { λ r. ⌜ Answers r (TooShort lanes closed moves order) ⌝ }
 {
     if lanes < Job::LANE_NUMBERS {
+        return true;
+    }
+    if closed < Job::NODES {
         return true;
     }
     if moves < Job::MOVE_NUMBERS {
@@ -52,27 +57,37 @@ fn too_short(lanes: usize, moves: usize, order: usize) -> bool
 }
 
 // The least length of each table becomes zero.
-fn zero_tables(lanes: &mut [u16], moves: &mut [u16], order: &mut [u16])
+fn zero_tables(lanes: &mut [u16], closed: &mut [u16], moves: &mut [u16], order: &mut [u16])
     ensures { λ _. ⌜
         (now (lanes .exit) ≡ zeroed laneNumbers (now (lanes .entry)))
+        × (now (closed .exit) ≡ zeroed nodeLimit (now (closed .entry)))
         × (now (moves .exit) ≡ zeroed moveNumbers (now (moves .entry)))
         × (now (order .exit) ≡ zeroed carrierLimit (now (order .entry)))
         ⌝ }
 {
     zero_first(lanes, Job::LANE_NUMBERS);
+    zero_first(closed, Job::NODES);
     zero_first(moves, Job::MOVE_NUMBERS);
     zero_first(order, Job::CARRIERS);
 }
 
 // The sections in their order, into tables that are long enough, and the end.
-fn read_text(text: &[u8], lanes: &mut [u16], moves: &mut [u16], order: &mut [u16]) -> Read
-    requires { ⌜ Long (now lanes) (now moves) (now order) ⌝ }
+fn read_text(
+    text: &[u8],
+    lanes: &mut [u16],
+    closed: &mut [u16],
+    moves: &mut [u16],
+    order: &mut [u16],
+) -> Read
+    requires { ⌜ Long (now lanes) (now closed) (now moves) (now order) ⌝ }
     ensures { λ r. ⌜
         TextRead (now (text .entry))
         (now (lanes .entry))
+        (now (closed .entry))
         (now (moves .entry))
         (now (order .entry))
         (now (lanes .exit))
+        (now (closed .exit))
         (now (moves .exit))
         (now (order .exit))
         r
@@ -82,35 +97,45 @@ fn read_text(text: &[u8], lanes: &mut [u16], moves: &mut [u16], order: &mut [u16
     let next = Cursor::start();
     let nodes_read = nodes_section(text, Progress::On(State { job, next }));
     let lanes_read = lanes_section(text, nodes_read, lanes);
-    let carriers_read = carriers_section(text, lanes_read, moves);
+    let closed_read = closed_section(text, lanes_read, closed);
+    let shut = closed_count(closed_read);
+    let carriers_read = carriers_section(text, closed_read, &closed[..shut], moves);
     let order_read = order_section(text, carriers_read, order);
     at_end(text, order_read)
 }
 
-// Reads a job text. The lanes' numbers go to `lanes`, the starts and goals of the carriers by turns to
-// `moves`, and the order to `order`.
-pub fn read_numbers(text: &[u8], lanes: &mut [u16], moves: &mut [u16], order: &mut [u16]) -> Read
+// Reads a job text. The lanes' numbers go to `lanes`, the closed nodes to `closed`, the starts and goals of
+// the carriers by turns to `moves`, and the order to `order`.
+pub fn read_numbers(
+    text: &[u8],
+    lanes: &mut [u16],
+    closed: &mut [u16],
+    moves: &mut [u16],
+    order: &mut [u16],
+) -> Read
     ensures { λ r. ⌜
         ReadInto (now (text .entry))
         (now (lanes .entry))
+        (now (closed .entry))
         (now (moves .entry))
         (now (order .entry))
         (now (lanes .exit))
+        (now (closed .exit))
         (now (moves .exit))
         (now (order .exit))
         (saidRead r)
         ⌝ }
 {
-    if too_short(lanes.len(), moves.len(), order.len()) {
+    if too_short(lanes.len(), closed.len(), moves.len(), order.len()) {
         return Read::Refused(Refusal {
             fault: Fault::ShortTable,
             place: 0,
         });
     }
-    zero_tables(lanes, moves, order);
-    let answer = read_text(text, lanes, moves, order);
+    zero_tables(lanes, closed, moves, order);
+    let answer = read_text(text, lanes, closed, moves, order);
     if let Read::Refused(_) = answer {
-        zero_tables(lanes, moves, order);
+        zero_tables(lanes, closed, moves, order);
     }
     answer
 }

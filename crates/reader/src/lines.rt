@@ -10,13 +10,16 @@ use hall::Job;
 use hall::Place;
 use hall::Refusal;
 use network::checks::check_entry;
-use network::checks::check_lane;
 use network::checks::check_place;
+use network::closed::check_closed_node;
+use network::lanes::check_lane;
 ghost use mathlib.Core.Path.{_≡_};
 ghost use Prim.Native.Nat.{suc, _*_, _≤_};
-ghost use lib.ListN.{length};
+ghost use lib.ListN.{length, drop};
+ghost use Rattle.hall.specs.Rule.{Answers};
 ghost use Rattle.hall.specs.Stages.{only-at, at-each};
 ghost use Rattle.hall.specs.Said.{Judged};
+ghost use Rattle.form.specs.Lines.{Counted};
 ghost use Rattle.cursor.specs.Bytes.{Capitals};
 ghost use Rattle.reader.specs.Entries.{sectionOf, placesIn, checksIn};
 ghost use Rattle.reader.specs.Entries.{EntryStored, EntryRead, Begun, EntriesRead};
@@ -46,9 +49,10 @@ pub enum Progress {
     Refused(Refusal),
 }
 
-// Whose lines are read: a lane and a move have two numbers, a place of the order has one.
+// Whose lines are read: a lane and a move have two numbers, a closed node and a place of the order have one.
 pub enum Entries {
     Lanes,
+    Closed,
     Moves,
     Places,
 }
@@ -89,6 +93,17 @@ pub(crate) fn count_line(
     }
 }
 
+// Whether a line of a word and a count stands at the cursor.
+pub(crate) fn count_stands(text: &[u8], here: Cursor, word: &[u8]) -> bool
+    requires { ⌜ Capitals (now word) ⌝ }
+    ensures { λ r. ⌜ Answers r (Counted (now (word .entry)) (drop (here .at) (now (text .entry)))) ⌝ }
+{
+    match here.count(text, word) {
+        Numbered::Got(_, _) => true,
+        Numbered::Bad => false,
+    }
+}
+
 // The numbers of entry k, from its line into the table.
 fn store_entry(text: &[u8], here: Cursor, which: Entries, k: usize, table: &mut [u16]) -> Passed
     requires { ⌜ sectionOf which .size * suc k ≤ length (now table) ⌝ }
@@ -99,39 +114,42 @@ fn store_entry(text: &[u8], here: Cursor, which: Entries, k: usize, table: &mut 
         r
         ⌝ }
 {
-    if let Entries::Places = which {
-        match here.one(text) {
+    match which {
+        Entries::Closed | Entries::Places => match here.one(text) {
             Numbered::Got(a, next) => {
                 table[k] = a;
-                return Passed::On(next);
+                Passed::On(next)
             }
-            Numbered::Bad => {
-                return Passed::Refused(refusal(Fault::Malformed, here));
+            Numbered::Bad => Passed::Refused(refusal(Fault::Malformed, here)),
+        },
+        Entries::Lanes | Entries::Moves => match here.pair(text) {
+            Paired::Got(a, b, next) => {
+                let at = 2 * k;
+                table[at] = a;
+                table[at + 1] = b;
+                Passed::On(next)
             }
-        }
-    }
-    match here.pair(text) {
-        Paired::Got(a, b, next) => {
-            let at = 2 * k;
-            table[at] = a;
-            table[at + 1] = b;
-            Passed::On(next)
-        }
-        Paired::Bad => Passed::Refused(refusal(Fault::Malformed, here)),
+            Paired::Bad => Passed::Refused(refusal(Fault::Malformed, here)),
+        },
     }
 }
 
-// The checks of entry k where it stands in the table, by the counts read before.
-fn check_stored(which: Entries, job: Job, table: &[u16], k: usize) -> Checked
+// The checks of entry k where it stands in the table, by the counts and, of a move, the closed nodes read
+// before.
+fn check_stored(which: Entries, job: Job, closed: &[u16], table: &[u16], k: usize) -> Checked
     ensures { λ r. ⌜
         Judged
-        (only-at k (at-each (placesIn which (now (table .entry))) (checksIn which job (now (table .entry)))))
+        (only-at k
+        (at-each
+        (placesIn which (now (table .entry)))
+        (checksIn which job (now (closed .entry)) (now (table .entry)))))
         r
         ⌝ }
 {
     match which {
         Entries::Lanes => check_lane(job.nodes, table, k),
-        Entries::Moves => check_entry(job.nodes, table, k),
+        Entries::Closed => check_closed_node(job.nodes, table, k),
+        Entries::Moves => check_entry(job.nodes, closed, table, k),
         Entries::Places => check_place(job.carriers, table, Place(k)),
     }
 }
@@ -142,19 +160,20 @@ fn entry_line(
     here: Cursor,
     which: Entries,
     job: Job,
+    closed: &[u16],
     k: usize,
     table: &mut [u16],
 ) -> Passed
     requires { ⌜ sectionOf which .size * suc k ≤ length (now table) ⌝ }
     ensures { λ r. ⌜
-        EntryRead (now (text .entry)) which job k here
+        EntryRead (now (text .entry)) which job (now (closed .entry)) k here
         (now (table .entry))
         (now (table .exit))
         r
         ⌝ }
 {
     match store_entry(text, here, which, k, table) {
-        Passed::On(next) => match check_stored(which, job, table, k) {
+        Passed::On(next) => match check_stored(which, job, closed, table, k) {
             Checked::Sound => Passed::On(next),
             Checked::Refused(r) => {
                 let fault = r.fault;
@@ -165,21 +184,23 @@ fn entry_line(
     }
 }
 
-// As many lines of entries as are counted, from where the cursor stands.
+// As many lines of entries as are counted, from where the cursor stands. Only the checks of moves look at the
+// closed nodes.
 pub(crate) fn entry_lines(
     text: &[u8],
     from: Cursor,
     which: Entries,
     job: Job,
+    closed: &[u16],
     count: usize,
     table: &mut [u16],
 ) -> Progress
     requires { ⌜
-        Begun (now text) which job count from
+        Begun (now text) which job (now closed) count from
         × (sectionOf which .size * count ≤ length (now table))
         ⌝ }
     ensures { λ r. ⌜
-        EntriesRead (now (text .entry)) which job count from
+        EntriesRead (now (text .entry)) which job (now (closed .entry)) count from
         (now (table .entry))
         (now (table .exit))
         r
@@ -188,7 +209,7 @@ pub(crate) fn entry_lines(
     let mut here = from;
     let mut k: usize = 0;
     while k < count {
-        match entry_line(text, here, which, job, k, table) {
+        match entry_line(text, here, which, job, closed, k, table) {
             Passed::On(next) => {
                 here = next;
                 k += 1;

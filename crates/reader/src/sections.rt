@@ -1,28 +1,32 @@
-// The sections of a job text, one step each (rules 7.1 and 7.8 to 7.13): a step takes what was read so far,
-// puts its section's count and its entries to it, and passes a refusal through. A section that is added to
-// the form needs one more step here. The last step asks for the end of the text.
+// The sections of a job text, one step each (rules 7.1, 7.8 to 7.13 and 7.17): a step takes what was read so
+// far, puts its section's count and its entries to it, and passes a refusal through. The section of the
+// closed nodes may be missing: then its step changes nothing. A section that is added to the form needs one
+// more step here. The last step asks for the end of the text.
 use crate::Read;
 use crate::lines::CountLine;
 use crate::lines::Entries;
 use crate::lines::Progress;
 use crate::lines::State;
 use crate::lines::count_line;
+use crate::lines::count_stands;
 use crate::lines::entry_lines;
 use crate::lines::refusal;
 use hall::Fault;
 use hall::Job;
+ghost use mathlib.Core.Path.{_≡_};
 ghost use mathlib.Core.List.{[]};
 ghost use Prim.Native.Nat.{_≤_};
 ghost use lib.ListN.{length};
-ghost use Rattle.hall.specs.Limits.{carrierLimit, laneNumbers, moveNumbers};
-ghost use Rattle.form.specs.JobText.{nodesSection, lanesSection, carriersSection, orderSection};
-ghost use Rattle.reader.specs.Sections.{Ready, putNodes, putLanes, putCarriers, putNone};
-ghost use Rattle.reader.specs.Sections.{SectionStep, EndStep};
+ghost use Rattle.hall.specs.Limits.{nodeLimit, carrierLimit, laneNumbers, moveNumbers};
+ghost use Rattle.form.specs.JobText.{nodesSection, lanesSection, closedSection, carriersSection};
+ghost use Rattle.form.specs.JobText.{orderSection};
+ghost use Rattle.reader.specs.Sections.{Ready, putNodes, putLanes, putClosed, putCarriers, putNone};
+ghost use Rattle.reader.specs.Sections.{SectionStep, closedIn, EndStep};
 
 // `NODES n`: its count.
 pub(crate) fn nodes_section(text: &[u8], progress: Progress) -> Progress
-    requires { ⌜ Ready (now text) nodesSection progress ⌝ }
-    ensures { λ r. ⌜ SectionStep (now (text .entry)) nodesSection putNodes 0 [] [] progress r ⌝ }
+    requires { ⌜ Ready (now text) [] nodesSection progress ⌝ }
+    ensures { λ r. ⌜ SectionStep (now (text .entry)) [] nodesSection putNodes 0 [] [] progress r ⌝ }
 {
     match progress {
         Progress::On(state) => {
@@ -42,9 +46,9 @@ pub(crate) fn nodes_section(text: &[u8], progress: Progress) -> Progress
 
 // `LANES m`: its count, and m lanes.
 pub(crate) fn lanes_section(text: &[u8], progress: Progress, table: &mut [u16]) -> Progress
-    requires { ⌜ Ready (now text) lanesSection progress × (laneNumbers ≤ length (now table)) ⌝ }
+    requires { ⌜ Ready (now text) [] lanesSection progress × (laneNumbers ≤ length (now table)) ⌝ }
     ensures { λ r. ⌜
-        SectionStep (now (text .entry)) lanesSection putLanes laneNumbers
+        SectionStep (now (text .entry)) [] lanesSection putLanes laneNumbers
         (now (table .entry))
         (now (table .exit))
         progress
@@ -58,7 +62,7 @@ pub(crate) fn lanes_section(text: &[u8], progress: Progress, table: &mut [u16]) 
                 CountLine::Count(count, next) => {
                     let mut job = state.job;
                     job.lanes = count;
-                    entry_lines(text, next, Entries::Lanes, job, count, table)
+                    entry_lines(text, next, Entries::Lanes, job, &[], count, table)
                 }
                 CountLine::Refused(r) => Progress::Refused(r),
             }
@@ -67,11 +71,63 @@ pub(crate) fn lanes_section(text: &[u8], progress: Progress, table: &mut [u16]) 
     }
 }
 
-// `CARRIERS k`: its count, and k moves.
-pub(crate) fn carriers_section(text: &[u8], progress: Progress, table: &mut [u16]) -> Progress
-    requires { ⌜ Ready (now text) carriersSection progress × (moveNumbers ≤ length (now table)) ⌝ }
+// `CLOSED c`: its count, and c closed nodes. Where no such line stands the section is missing: the cursor
+// stays, and the next step asks for its own line there.
+pub(crate) fn closed_section(text: &[u8], progress: Progress, table: &mut [u16]) -> Progress
+    requires { ⌜ Ready (now text) [] closedSection progress × (nodeLimit ≤ length (now table)) ⌝ }
     ensures { λ r. ⌜
-        SectionStep (now (text .entry)) carriersSection putCarriers moveNumbers
+        SectionStep (now (text .entry)) [] closedSection putClosed nodeLimit
+        (now (table .entry))
+        (now (table .exit))
+        progress
+        r
+        ⌝ }
+{
+    match progress {
+        Progress::On(state) => {
+            let here = state.next;
+            if !count_stands(text, here, b"CLOSED") {
+                return progress;
+            }
+            match count_line(text, here, b"CLOSED", 1, Job::NODES) {
+                CountLine::Count(count, next) => {
+                    let mut job = state.job;
+                    job.closed = count;
+                    entry_lines(text, next, Entries::Closed, job, &[], count, table)
+                }
+                CountLine::Refused(r) => Progress::Refused(r),
+            }
+        }
+        Progress::Refused(r) => Progress::Refused(r),
+    }
+}
+
+// How many closed nodes were read; none where the text is refused.
+pub(crate) fn closed_count(progress: Progress) -> usize
+    ensures { λ r. ⌜ r ≡ closedIn progress ⌝ }
+{
+    match progress {
+        Progress::On(state) => {
+            let job = state.job;
+            job.closed
+        }
+        Progress::Refused(_) => 0,
+    }
+}
+
+// `CARRIERS k`: its count, and k moves, whose ends may not be among the closed nodes that were read.
+pub(crate) fn carriers_section(
+    text: &[u8],
+    progress: Progress,
+    closed: &[u16],
+    table: &mut [u16],
+) -> Progress
+    requires { ⌜
+        Ready (now text) (now closed) carriersSection progress
+        × (moveNumbers ≤ length (now table))
+        ⌝ }
+    ensures { λ r. ⌜
+        SectionStep (now (text .entry)) (now (closed .entry)) carriersSection putCarriers moveNumbers
         (now (table .entry))
         (now (table .exit))
         progress
@@ -85,7 +141,7 @@ pub(crate) fn carriers_section(text: &[u8], progress: Progress, table: &mut [u16
                 CountLine::Count(count, next) => {
                     let mut job = state.job;
                     job.carriers = count;
-                    entry_lines(text, next, Entries::Moves, job, count, table)
+                    entry_lines(text, next, Entries::Moves, job, closed, count, table)
                 }
                 CountLine::Refused(r) => Progress::Refused(r),
             }
@@ -96,9 +152,9 @@ pub(crate) fn carriers_section(text: &[u8], progress: Progress, table: &mut [u16
 
 // `ORDER k`: as many places as there are carriers.
 pub(crate) fn order_section(text: &[u8], progress: Progress, table: &mut [u16]) -> Progress
-    requires { ⌜ Ready (now text) orderSection progress × (carrierLimit ≤ length (now table)) ⌝ }
+    requires { ⌜ Ready (now text) [] orderSection progress × (carrierLimit ≤ length (now table)) ⌝ }
     ensures { λ r. ⌜
-        SectionStep (now (text .entry)) orderSection putNone carrierLimit
+        SectionStep (now (text .entry)) [] orderSection putNone carrierLimit
         (now (table .entry))
         (now (table .exit))
         progress
@@ -111,7 +167,7 @@ pub(crate) fn order_section(text: &[u8], progress: Progress, table: &mut [u16]) 
             let job = state.job;
             match count_line(text, here, b"ORDER", job.carriers, job.carriers) {
                 CountLine::Count(count, next) => {
-                    entry_lines(text, next, Entries::Places, job, count, table)
+                    entry_lines(text, next, Entries::Places, job, &[], count, table)
                 }
                 CountLine::Refused(r) => Progress::Refused(r),
             }

@@ -1,12 +1,13 @@
--- The answer for a job without faults 2 to 7, from what planning promises. The lists that are lent are long
--- enough, so the first fault of planning is that of the job, which is 8 at a carrier; what is printed is its
--- refusal with the carrier's line, whose number is the sum that the code makes (form's `carrier-line`). Where
--- planning answers a cost, the job has no fault, the table and the ticks are its plan, and the distances that
--- are printed are those of the plan below the number of carriers, which is all that the text asks for.
--- Assumes nothing.
---     RoomFor       the lists that are lent to planning have their least lengths
+-- The answer for a job without a fault of its listed checks, from what planning promises. The lists that are
+-- lent are long enough, so the first fault of planning is that of the job, which is 8 at a carrier; what is
+-- printed is its refusal with the carrier's line, whose number is the sum that the code makes (form's
+-- `carrier-line`). Where planning answers a cost, the job has no fault, the table and the ticks are its plan,
+-- and the distances that are printed are those of the plan below the number of carriers, which is all that
+-- the text asks for. Assumes nothing.
+--     closed-lines-few    the section of the closed nodes has a line more than they are, or none
+--     RoomFor             the lists that are lent to planning have their least lengths
 use mathlib.Core.Path.{_≡_, refl, sym, subst}
-use mathlib.Core.List.{List}
+use mathlib.Core.List.{List, [], _∷_}
 use Prim.Native.Nat.{ℕ, zero, suc, _+_, _≤_, _<_}
 use native.Mathlib.Decide.{decLt}
 use native.Mathlib.Omega.{arith}
@@ -26,6 +27,7 @@ use Rattle.planner.specs.declared.Planned.the-variants.{Cost, Refused}
 use Rattle.planner.specs.Planning.{saidPlanned, Lent, short-table, short-distances, short-ticks, ShortOf}
 use Rattle.planner.specs.Planning.{NumbersPlanned, NumbersRefused, Planning}
 use Rattle.planner.proofs.Faults.{none-of-job, job-first}
+use Rattle.form.specs.Jobs.{closedLines}
 use Rattle.form.proofs.CarrierLines.{carrier-line}
 use Rattle.report.specs.Printed.{printRoom, carrierLines, planText, refusedText}
 use Rattle.report.specs.Printing.{Askable, PlanPrinting, RefusedPrinting}
@@ -51,6 +53,12 @@ pub text-same : (k : ℕ) (tick tick′ distance distance′ : ℕ → ℕ) (cos
 unfolding planText
 text-same k tick tick′ distance distance′ cost et ed = rw (lines-same k tick tick′ distance distance′ et ed)
 
+-- ---- the lines of the closed nodes
+
+pub closed-lines-few : (closed : List ℕ) → closedLines closed ≤ suc (length closed)
+closed-lines-few [] = omega arith
+closed-lines-few (v ∷ l) = omega arith
+
 -- ---- planning with room
 
 pub record RoomFor (l : Lent) : Type 0 where
@@ -74,7 +82,7 @@ module _ {j : Numbers} {before after : Lent} (sound : None (checksQuestion j)) (
     refused-carrier = only-eight j sound first-of-job .1 .0
 
     pub refusal-answers : {out out′ : List ℕ} {r : ℕ} →
-        RefusedPrinting n (4 + laneCount (j .network .lanes) + p) out out′ r →
+        RefusedPrinting n (4 + laneCount (j .network .lanes) + closedLines (j .network .closed) + p) out out′ r →
         Answering (JobAnswer j) out out′ r
     refusal-answers (RefusedPrinting.nothing short u) = Answering.nothing short u
     refusal-answers (RefusedPrinting.whole long prints) =

@@ -1,8 +1,8 @@
 -- What the plan program answers to a text (rules 10.1 to 10.6). No reader stands here: when a text is refused
 -- with which number at which line, when it is the written form of a job, and which line a carrier has in it
 -- is said in crate form, of written lines alone.
---     JobAnswer     the text for a job without faults 2 to 7: where the first fault is 8, the refusal with
---                   the carrier's line; where there is no fault, the plan
+--     JobAnswer     the text for a job without a fault of its listed checks: where the first fault is 8, the
+--                   refusal with the carrier's line; where there is no fault, the plan
 --     AnswerText    the text for a job text: the refusal of its first faulty line, or the text for the job
 --                   that it is the written form of
 --     Answering     a text of a kind is printed, for every input: it stands in front of the bytes with zeros

@@ -3,12 +3,14 @@
 // and those beyond are never touched, as section 9 of the rules has it of lent lists; into fewer than 2,048
 // bytes nothing is printed and the answer is 0 (rule 10.6). A print is none of the questions of section 8, so
 // no refusal number is given for a short list. The tables that reading and planning fill are locals of their
-// least lengths, 41,728 bytes of arrays, so neither refuses with 9.
+// least lengths, 43,776 bytes of arrays, so neither refuses with 9.
+ghost use mathlib.Core.Path.{_≡_};
 ghost use denote.Ref.{now};
 ghost use Rattle.hall.specs.Floor.{networkOf};
 ghost use Rattle.hall.specs.Job.{jobOf};
 ghost use Rattle.hall.specs.Stages.{None};
 ghost use Rattle.hall.specs.Questions.{checksQuestion};
+ghost use Rattle.form.specs.Jobs.{closedLines};
 ghost use Rattle.report.specs.Answer.{JobAnswer, AnswerText, Answering};
 use crate::print::print_plan;
 use crate::print::print_refused;
@@ -20,13 +22,33 @@ use reader::read_numbers;
 
 pub mod print;
 
-// The answer for a job without faults 2 to 7. Carrier 0 stands on the line behind NODES, LANES, the lanes and
-// CARRIERS (rule 7.10); form's `carrier-line` says that this is the line that the sections above a carrier
-// give it.
-fn answer_job(nodes: usize, lanes: &[u16], moves: &[u16], order: &[u16], out: &mut [u8]) -> usize
-    requires { ⌜ None (checksQuestion (jobOf (networkOf nodes (now lanes)) (now moves) (now order))) ⌝ }
+// How many lines the section of the closed nodes has: none where no node is closed (rule 7.17).
+fn closed_lines(closed: &[u16]) -> usize
+    ensures { λ r. ⌜ r ≡ closedLines (now (closed .entry)) ⌝ }
+{
+    let count = closed.len();
+    if count == 0 {
+        return 0;
+    }
+    1 + count
+}
+
+// The answer for a job without a fault of its listed checks. Carrier 0 stands on the line behind NODES,
+// LANES, the lanes, the section of the closed nodes and CARRIERS (rule 7.10); form's `carrier-line` says
+// that this is the line that the sections above a carrier give it.
+fn answer_job(
+    nodes: usize,
+    lanes: &[u16],
+    closed: &[u16],
+    moves: &[u16],
+    order: &[u16],
+    out: &mut [u8],
+) -> usize
+    requires { ⌜ None (checksQuestion
+        (jobOf (networkOf nodes (now lanes) (now closed)) (now moves) (now order))) ⌝ }
     ensures { λ r. ⌜ Answering
-        (JobAnswer (jobOf (networkOf nodes (now (lanes .entry))) (now (moves .entry)) (now (order .entry))))
+        (JobAnswer (jobOf (networkOf nodes (now (lanes .entry)) (now (closed .entry)))
+        (now (moves .entry)) (now (order .entry))))
         (now (out .entry)) (now (out .exit))
         r ⌝ }
 {
@@ -34,10 +56,11 @@ fn answer_job(nodes: usize, lanes: &[u16], moves: &[u16], order: &[u16], out: &m
     let mut distances = [0u16; Job::CARRIERS];
     let mut ticks = [0u32; Job::CARRIERS];
     let carriers = moves.len() / 2;
-    let first = 4 + lanes.len() / 2;
+    let first = 4 + lanes.len() / 2 + closed_lines(closed);
     let planned = plan_moves(
         nodes,
         lanes,
+        closed,
         moves,
         order,
         &mut table,
@@ -63,18 +86,21 @@ pub fn answer(text: &[u8], out: &mut [u8]) -> usize
         r ⌝ }
 {
     let mut lanes = [0u16; Job::LANE_NUMBERS];
+    let mut closed = [0u16; Job::NODES];
     let mut moves = [0u16; Job::MOVE_NUMBERS];
     let mut order = [0u16; Job::CARRIERS];
-    let read = read_numbers(text, &mut lanes, &mut moves, &mut order);
+    let read = read_numbers(text, &mut lanes, &mut closed, &mut moves, &mut order);
     match read {
         Read::Job(counts) => {
             let nodes = counts.nodes;
             let numbers = 2 * counts.lanes;
+            let shut = counts.closed;
             let places = counts.carriers;
             let ends = 2 * places;
             answer_job(
                 nodes,
                 &lanes[..numbers],
+                &closed[..shut],
                 &moves[..ends],
                 &order[..places],
                 out,

@@ -1,5 +1,4 @@
 -- What the steps of filling promise to one another. No public promise cites them.
---     EachBelow       each number of the moves is below n
 --     RowCopied       the distances of a row at the starts or the goals (offset 0 or 1) of k moves stand in
 --                     the table from `base` on; nothing else changed
 --     Elsewhere       place x is none of carrier i's in a job of k
@@ -13,9 +12,6 @@ use Rattle.hall.specs.Limits.{carrierLimit, blockLength}
 use Rattle.hall.specs.Floor.{Network, floor, DistanceIs}
 use Rattle.hall.specs.Job.{moveCount, startIn, goalIn}
 use Rattle.hall.specs.Plan.{tablesIn}
-
-abbrev pub EachBelow : List ℕ → ℕ → Type 0
-EachBelow moves n = (x : ℕ) → x < 2 * moveCount moves → getD moves x 0 < n
 
 pub record RowCopied (row moves : List ℕ) (offset k base : ℕ) (table table′ : List ℕ) : Type 0 where
   pub size : length table′ ≡ length table

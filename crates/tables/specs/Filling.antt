@@ -1,6 +1,8 @@
 -- The distance table of a job, and the carriers that have no walk by it (rules 2.6, 8.8, 9.2 and 9.8).
+--     EachBelow         each number of the moves is below n
 --     TableServed       what is served: at most 1,024 nodes and 64 carriers, every start and goal a node,
---                       room for the whole table
+--                       open or closed, and room for the whole table. The true distance to a closed node is
+--                       the mark, since no walk stands on it
 --     Used              place x of the table belongs to two carriers of a job of k
 --     TableLeft         the table of a job of k carriers: unused places zero, and what is past the least
 --                       length as it came
@@ -18,24 +20,27 @@ use mathlib.Core.Path.{_≡_}
 use mathlib.Core.Logic.{_⊎_, _≢_}
 use mathlib.Core.Bool.{Bool, true, false}
 use mathlib.Core.List.{List}
-use Prim.Native.Nat.{ℕ, _/_, _%_, _≤_, _<_}
+use Prim.Native.Nat.{ℕ, _*_, _/_, _%_, _≤_, _<_}
 use lib.ListN.{length, getD}
 use Rattle.hall.specs.declared.Fault.the-variants.{Unreachable}
 use Rattle.hall.specs.Numbers.{numberOf}
 use Rattle.hall.specs.Said.{Said, accepted, refused}
 use Rattle.hall.specs.Limits.{nodeLimit, carrierLimit, blockLength, tableLength, noWalkMark}
 use Rattle.hall.specs.Floor.{Network, floor}
-use Rattle.hall.specs.Job.{moveCount, startIn, goalIn, EndsOn}
+use Rattle.hall.specs.Job.{moveCount, startIn, goalIn}
 use Rattle.hall.specs.Ticks.{own}
 use Rattle.hall.specs.Plan.{TablesOf, tablesIn}
 use Rattle.tables.specs.declared.Reach.{Reach}
 use Rattle.tables.specs.declared.Reach.the-variants.{All, Lost}
 
+abbrev pub EachBelow : List ℕ → ℕ → Type 0
+EachBelow moves n = (x : ℕ) → x < 2 * moveCount moves → getD moves x 0 < n
+
 pub record TableServed (N : Network) (moves : List ℕ) (room : ℕ) : Type 0 where
   pub few-nodes : N .nodes ≤ nodeLimit
   pub few-carriers : moveCount moves ≤ carrierLimit
   pub whole-table : tableLength ≤ room
-  pub on-floor : EndsOn (floor N) moves
+  pub on-floor : EachBelow moves (N .nodes)
 
 pub record Used (k x : ℕ) : Type 0 where
   pub first : x % blockLength / carrierLimit < k

@@ -1,7 +1,8 @@
 // The distance table of a job (rule 9.8): start to start, start to goal and goal to goal, by carrier numbers.
-// It serves every lane list; more than 1,024 nodes or 64 carriers, a start or goal that is no node and a
-// table that is too short are not served, and the table is then as it came. A filled table tells which
-// carrier is the lowest without a walk to its goal (rule 8.8).
+// It serves every lane list and every list of closed nodes; more than 1,024 nodes or 64 carriers, a start or
+// goal that is no node and a table that is too short are not served, and the table is then as it came. A
+// closed start or goal is served: no walk joins it to anything, so the mark stands there. A filled table
+// tells which carrier is the lowest without a walk to its goal (rule 8.8).
 //
 // Cost: two distance walks a carrier, 128 at the most.
 use hall::Carrier;
@@ -16,8 +17,9 @@ ghost use Rattle.hall.specs.Limits.{tableLength};
 ghost use Rattle.hall.specs.Floor.{networkOf};
 ghost use Rattle.hall.specs.Job.{moveCount};
 ghost use Rattle.hall.specs.Rule.{Answers};
-ghost use Rattle.tables.specs.Filling.{TableServed, Filling, TableFilled, saidReach, Reaching};
-ghost use Rattle.tables.specs.Blocks.{EachBelow, RowCopied, CarrierFilled};
+ghost use Rattle.tables.specs.Filling.{EachBelow, TableServed, Filling, TableFilled};
+ghost use Rattle.tables.specs.Filling.{saidReach, Reaching};
+ghost use Rattle.tables.specs.Blocks.{RowCopied, CarrierFilled};
 
 // Where the third block begins.
 const GOALS: usize = 2 * Job::BLOCK;
@@ -58,41 +60,51 @@ fn copy_row(row: &[u16], moves: &[u16], offset: usize, base: usize, table: &mut 
 }
 
 // The three rows of carrier i.
-fn fill_carrier(nodes: usize, lanes: &[u16], moves: &[u16], i: usize, table: &mut [u16])
-    requires { ⌜ TableServed (networkOf nodes (now lanes)) (now moves) (length (now table))
+fn fill_carrier(
+    nodes: usize,
+    lanes: &[u16],
+    closed: &[u16],
+    moves: &[u16],
+    i: usize,
+    table: &mut [u16],
+)
+    requires { ⌜ TableServed (networkOf nodes (now lanes) (now closed)) (now moves) (length (now table))
         × (i < moveCount (now moves)) ⌝ }
-    ensures { λ _. ⌜ CarrierFilled (networkOf nodes (now (lanes .entry))) (now (moves .entry)) i
+    ensures { λ _. ⌜ CarrierFilled (networkOf nodes (now (lanes .entry)) (now (closed .entry)))
+        (now (moves .entry)) i
         (now (table .entry)) (now (table .exit)) ⌝ }
 {
     let mut row = [0u16; Job::NODES];
     let base = Job::CARRIERS * i;
     let from = moves[2 * i];
     let to = moves[2 * i + 1];
-    distances(nodes, lanes, from, &mut row);
+    distances(nodes, lanes, closed, from, &mut row);
     copy_row(&row, moves, 0, base, table);
     copy_row(&row, moves, 1, Job::BLOCK + base, table);
-    distances(nodes, lanes, to, &mut row);
+    distances(nodes, lanes, closed, to, &mut row);
     copy_row(&row, moves, 1, GOALS + base, table);
 }
 
 // The rows of all carriers, over a table whose first places are zero.
-fn fill_all(nodes: usize, lanes: &[u16], moves: &[u16], table: &mut [u16])
-    requires { ⌜ TableServed (networkOf nodes (now lanes)) (now moves) (length (now table))
+fn fill_all(nodes: usize, lanes: &[u16], closed: &[u16], moves: &[u16], table: &mut [u16])
+    requires { ⌜ TableServed (networkOf nodes (now lanes) (now closed)) (now moves) (length (now table))
         × ((x : ℕ) → x < tableLength → getD (now table) x 0 ≡ 0) ⌝ }
-    ensures { λ _. ⌜ TableFilled (networkOf nodes (now (lanes .entry))) (now (moves .entry))
+    ensures { λ _. ⌜ TableFilled (networkOf nodes (now (lanes .entry)) (now (closed .entry)))
+        (now (moves .entry))
         (now (table .entry)) (now (table .exit)) ⌝ }
 {
     let count = moves.len() / 2;
     let mut i: usize = 0;
     while i < count {
-        fill_carrier(nodes, lanes, moves, i, table);
+        fill_carrier(nodes, lanes, closed, moves, i, table);
         i += 1;
     }
 }
 
 // The distances between the starts and goals of the moves; whether they were worked out.
-pub fn fill(nodes: usize, lanes: &[u16], moves: &[u16], table: &mut [u16]) -> bool
-    ensures { λ r. ⌜ Filling (networkOf nodes (now (lanes .entry))) (now (moves .entry))
+pub fn fill(nodes: usize, lanes: &[u16], closed: &[u16], moves: &[u16], table: &mut [u16]) -> bool
+    ensures { λ r. ⌜ Filling (networkOf nodes (now (lanes .entry)) (now (closed .entry)))
+        (now (moves .entry))
         (now (table .entry)) (now (table .exit)) r ⌝ }
 {
     let count = moves.len() / 2;
@@ -110,7 +122,7 @@ pub fn fill(nodes: usize, lanes: &[u16], moves: &[u16], table: &mut [u16]) -> bo
         return false;
     }
     zero_first(table, Job::TABLE);
-    fill_all(nodes, lanes, moves, table);
+    fill_all(nodes, lanes, closed, moves, table);
     true
 }
 

@@ -1,6 +1,6 @@
 -- An order that is served lists carrier numbers below its length, each once: that is what it says that
 -- nothing of 7 holds of it. So it lists them all, and what holds of the carrier at each place holds of each
--- carrier. The order of a job of which nothing of 2 to 7 holds is such an order. Assumes nothing.
+-- carrier. The order of a job without a fault of its listed checks is such an order. Assumes nothing.
 use mathlib.Core.Path.{_≡_, sym, subst}
 use mathlib.Core.Logic.{_≢_}
 use mathlib.Core.List.{List, [], _∷_, _++_}
@@ -12,7 +12,7 @@ use Rattle.hall.specs.Limits.{carrierLimit, tableLength}
 use Rattle.hall.specs.Job.{Numbers, carriers}
 use Rattle.hall.specs.Stages.{None}
 use Rattle.hall.specs.Refusals.{BadOrder-at, no-carrier, stands-earlier}
-use Rattle.hall.specs.Questions.{counts, eachLane, eachMove, orderChecks, eachOrderPlace, checksQuestion}
+use Rattle.hall.specs.Questions.{counts, eachLane, eachClosed, eachMove, orderChecks, eachOrderPlace, checksQuestion}
 use Rattle.hall.proofs.Compose.{none-split}
 use Rattle.hall.proofs.Places.{none-each}
 use Rattle.hall.proofs.Sound.{carriers-limit, order-length}
@@ -58,8 +58,12 @@ module _ (j : Numbers) (sound : None (checksQuestion j)) where
   order-sound : None (eachOrderPlace (carriers j) (j .order) ∷ [])
   order-sound =
       none-split
-      (counts (j .network .nodes) (length (j .network .lanes)) (carriers j) (length (j .order))
-      ++ (eachLane (j .network) ∷ eachMove (j .network) (j .moves) ∷ []))
+      (counts (j .network .nodes) (length (j .network .lanes)) (length (j .network .closed))
+      (carriers j) (length (j .order))
+      ++ (eachLane (j .network .nodes) (j .network .lanes)
+      ∷ eachClosed (j .network .nodes) (j .network .closed)
+      ∷ eachMove (j .network .nodes) (j .network .closed) (j .moves)
+      ∷ []))
       (eachOrderPlace (carriers j) (j .order) ∷ []) sound .1
 
   pub job-served : {table : List ℕ} {room : ℕ} →

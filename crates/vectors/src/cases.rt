@@ -71,9 +71,18 @@ fn two_lists(kind: u8, s: &[u8], at: usize) {
 // The text is read once and so many further times: none but where the payload has a count of them.
 fn ask_text<'a>(kind: u8, s: &[u8], text: &[u8], further: u16, own: &'a [u16], spare: &'a [u16]) {
     let mut lanes = [0u16; Job::LANE_NUMBERS];
+    let mut closed = [0u16; Job::NODES];
     let mut moves = [0u16; Job::MOVE_NUMBERS];
     let mut order = [0u16; Job::CARRIERS];
-    match written::read_often(further, text, &mut lanes, &mut moves, &mut order) {
+    let read = written::read_often(
+        further,
+        text,
+        &mut lanes,
+        &mut closed,
+        &mut moves,
+        &mut order,
+    );
+    match read {
         Read::Job(job) => {
             let lane_count = least(job.lanes, Job::LANES);
             let count = least(job.carriers, Job::CARRIERS);
@@ -82,6 +91,7 @@ fn ask_text<'a>(kind: u8, s: &[u8], text: &[u8], further: u16, own: &'a [u16], s
                 s,
                 job,
                 front(&lanes, 2 * lane_count),
+                front(&closed, job.closed),
                 front(&moves, 2 * count),
                 front(&order, count),
                 own,
@@ -99,6 +109,7 @@ fn ask_job<'a>(
     s: &[u8],
     job: Job,
     lanes: &[u16],
+    closed: &[u16],
     moves: &[u16],
     order: &[u16],
     own: &'a [u16],
@@ -110,20 +121,30 @@ fn ask_job<'a>(
         b'R' => {
             print::read(Read::Job(job));
             rows(lanes, 2);
+            rows(closed, 1);
             rows(moves, 2);
             rows(order, 1);
         }
         b'H' => {
             let mut path = [0u16; Job::NODES];
-            let length = print::housed(house_for(nodes, lanes, moves, order, carrier, &mut path));
+            let length = print::housed(house_for(
+                nodes,
+                lanes,
+                closed,
+                moves,
+                order,
+                carrier,
+                &mut path,
+            ));
             rows(front(&path, length), length);
         }
-        b'Q' => print::judged(judge_for(nodes, lanes, moves, order, carrier, own)),
-        b'W' => written::write_and_print(short_at(s, 2), nodes, lanes, moves, order),
+        b'Q' => print::judged(judge_for(nodes, lanes, closed, moves, order, carrier, own)),
+        b'W' => written::write_and_print(short_at(s, 2), nodes, lanes, closed, moves, order),
         _ => ask_move(
             kind,
             nodes,
             lanes,
+            closed,
             short_at(s, 0),
             short_at(s, 2),
             own,
@@ -137,22 +158,23 @@ fn ask_move<'a>(
     kind: u8,
     nodes: usize,
     lanes: &[u16],
+    closed: &[u16],
     start: u16,
     goal: u16,
     own: &'a [u16],
     spare: &'a [u16],
 ) {
     match kind {
-        b'h' => print_house(nodes, lanes, start, goal),
-        b'q' => print::judged(judge(nodes, lanes, start, goal, own)),
-        _ => print::chosen(choose(nodes, lanes, start, goal, own, spare), own),
+        b'h' => print_house(nodes, lanes, closed, start, goal),
+        b'q' => print::judged(judge(nodes, lanes, closed, start, goal, own)),
+        _ => print::chosen(choose(nodes, lanes, closed, start, goal, own, spare), own),
     }
 }
 
 // The house path of a move, with its nodes on a line.
-pub(crate) fn print_house(nodes: usize, lanes: &[u16], start: u16, goal: u16) {
+pub(crate) fn print_house(nodes: usize, lanes: &[u16], closed: &[u16], start: u16, goal: u16) {
     let mut path = [0u16; Job::NODES];
-    let length = print::housed(house(nodes, lanes, start, goal, &mut path));
+    let length = print::housed(house(nodes, lanes, closed, start, goal, &mut path));
     rows(front(&path, length), length);
 }
 

@@ -13,15 +13,16 @@ pub(crate) fn read_often(
     further: u16,
     text: &[u8],
     lanes: &mut [u16],
+    closed: &mut [u16],
     moves: &mut [u16],
     order: &mut [u16],
 ) -> Read {
     let mut i: u16 = 0;
     while i < further {
-        read_numbers(text, lanes, moves, order);
+        read_numbers(text, lanes, closed, moves, order);
         i += 1;
     }
-    read_numbers(text, lanes, moves, order)
+    read_numbers(text, lanes, closed, moves, order)
 }
 
 // Prints the text of a job and nothing else. A job that was read has no fault and the room is long enough, so
@@ -30,11 +31,12 @@ pub(crate) fn write_and_print(
     further: u16,
     nodes: usize,
     lanes: &[u16],
+    closed: &[u16],
     moves: &[u16],
     order: &[u16],
 ) {
     let mut out = text_room();
-    let answer = write_often(further, nodes, lanes, moves, order, &mut out);
+    let answer = write_often(further, nodes, lanes, closed, moves, order, &mut out);
     match answer {
         Written::Bytes(count) => print::word(opening(&out, count)),
         Written::Refused(r) => print::refused(r),
@@ -46,14 +48,15 @@ fn write_often(
     further: u16,
     nodes: usize,
     lanes: &[u16],
+    closed: &[u16],
     moves: &[u16],
     order: &[u16],
     out: &mut [u8],
 ) -> Written {
     let mut i: u16 = 0;
     while i < further {
-        write_numbers(nodes, lanes, moves, order, out);
+        write_numbers(nodes, lanes, closed, moves, order, out);
         i += 1;
     }
-    write_numbers(nodes, lanes, moves, order, out)
+    write_numbers(nodes, lanes, closed, moves, order, out)
 }

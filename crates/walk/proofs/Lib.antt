@@ -2,6 +2,7 @@
 -- distances.
 pub mod WalkRow
 pub mod WalkBegun
+pub mod WalkMarks
 pub mod WalkGreatest
 pub mod WalkSweep
 pub mod WalkReach

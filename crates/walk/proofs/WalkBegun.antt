@@ -1,7 +1,9 @@
--- The row before the first sweep: the source at 0, every other node marked as not reached, and the rest as it
--- came. Assumes nothing.
---     Begun      the row before the first sweep, compared with the row that came
---     begun      marking the nodes and then the source leaves it
+-- The row before the first sweep: the source at 0 if it is open, every other open node marked as not reached,
+-- every closed node with the mark that never falls, and the rest as it came. Assumes nothing.
+--     Begun           the row before the first sweep, compared with the row that came
+--     shut-length     marking the nodes and then the closed ones leaves a row as long
+--     begun-open      marking the nodes, the closed ones and then the source leaves it
+--     begun-closed    so does marking without the source, where that is closed
 use mathlib.Core.Path.{_≡_, _∙_}
 use mathlib.Core.Logic.{_≢_}
 use mathlib.Core.List.{List, _++_}
@@ -10,31 +12,34 @@ use native.Mathlib.Omega.{arith}
 use lib.ListN.{length, getD, set, replicate, drop, length-set, length-append, length-replicate, length-drop, getD-replicate, List·getD-append}
 use lib.Seq.{getD-set-same, getD-set-other, getD-append-add, getD-drop}
 use Rattle.hall.specs.Limits.{noWalkMark}
+use Rattle.hall.specs.Floor.{Network, Closed, Open}
+use Rattle.walk.specs.Sweep.{unreachedMark, Shut}
 
-pub record Begun (nodes source : ℕ) (row₀ row : List ℕ) : Type 0 where
+pub record Begun (N : Network) (source : ℕ) (row₀ row : List ℕ) : Type 0 where
   pub size : length row ≡ length row₀
-  pub source-zero : getD row source 0 ≡ 0
-  pub unreached : (v : ℕ) → v < nodes → v ≢ source → getD row v 0 ≡ noWalkMark
-  pub beyond : (v : ℕ) → nodes ≤ v → getD row v 0 ≡ getD row₀ v 0
+  pub source-zero : Open N source → getD row source 0 ≡ 0
+  pub unreached : (v : ℕ) → Open N v → v ≢ source → getD row v 0 ≡ unreachedMark
+  pub shut : (v : ℕ) → v < N .nodes → Closed (N .closed) v → getD row v 0 ≡ noWalkMark
+  pub beyond : (v : ℕ) → N .nodes ≤ v → getD row v 0 ≡ getD row₀ v 0
 
 module _ (nodes : ℕ) (row₀ : List ℕ) (wide : nodes ≤ length row₀) where
   marks : List ℕ
-  marks = replicate nodes noWalkMark
+  marks = replicate nodes unreachedMark
 
   blank : List ℕ
-  blank = replicate nodes noWalkMark ++ drop nodes row₀
+  blank = replicate nodes unreachedMark ++ drop nodes row₀
 
   marks-length : length marks ≡ nodes
   unfolding marks
-  marks-length = length-replicate {A = ℕ} nodes noWalkMark
+  marks-length = length-replicate {A = ℕ} nodes unreachedMark
 
   blank-length : length blank ≡ length row₀
   unfolding blank
   blank-length = simp (length-append, length-replicate, length-drop) (omega arith)
 
-  blank-below : (v : ℕ) → v < nodes → getD blank v 0 ≡ noWalkMark
+  blank-below : (v : ℕ) → v < nodes → getD blank v 0 ≡ unreachedMark
   unfolding blank marks
-  blank-below v h = List·getD-append marks (drop nodes row₀) 0 v (rw marks-length h) ∙ getD-replicate nodes v noWalkMark 0 h
+  blank-below v h = List·getD-append marks (drop nodes row₀) 0 v (rw marks-length h) ∙ getD-replicate nodes v unreachedMark 0 h
 
   blank-beyond : (v : ℕ) → nodes ≤ v → getD blank v 0 ≡ getD row₀ v 0
   unfolding blank marks
@@ -43,14 +48,40 @@ module _ (nodes : ℕ) (row₀ : List ℕ) (wide : nodes ≤ length row₀) wher
       let f : nodes + (v - nodes) ≡ v = omega arith in
       (rw e at (getD-append-add marks (drop nodes row₀) (v - nodes) 0)) ∙ (rw f at (getD-drop nodes row₀ (v - nodes) 0))
 
-  begun-blank : (source : ℕ) → source < nodes → Begun nodes source row₀ (set blank source 0)
-  begun-blank source h = record {
-    size = length-set blank source 0 ∙ blank-length;
-    source-zero = getD-set-same blank source 0 0 (rw blank-length (omega arith));
-    unreached = λ v k n. getD-set-other blank source v 0 0 n ∙ blank-below v k;
-    beyond = λ v k. getD-set-other blank source v 0 0 (λ e. let x : ⊥ = omega arith in x) ∙ blank-beyond v k;
-  }
-
-  pub begun : (source : ℕ) → source < nodes → {row : List ℕ} → row ≡ replicate nodes noWalkMark ++ drop nodes row₀ → Begun nodes source row₀ (set row source 0)
+-- the row once the closed nodes have their mark
+module _ (N : Network) (row₀ : List ℕ) (wide : N .nodes ≤ length row₀) {blank₀ row : List ℕ} (is-blank : blank₀ ≡ replicate (N .nodes) unreachedMark ++ drop (N .nodes) row₀)
+    (shut : Shut (N .nodes) (N .closed) blank₀ row) where
+  pub shut-length : length row ≡ length row₀
   unfolding blank
-  begun source h e = rw e (begun-blank source h)
+  shut-length = shut .size ∙ (rw is-blank (blank-length (N .nodes) row₀ wide))
+
+  shut-open : (v : ℕ) → Open N v → getD row v 0 ≡ unreachedMark
+  unfolding blank
+  shut-open v o = shut .kept v (o .not-closed) ∙ (rw is-blank (blank-below (N .nodes) row₀ wide v (o .numbered)))
+
+  shut-beyond : (v : ℕ) → N .nodes ≤ v → getD row v 0 ≡ getD row₀ v 0
+  unfolding blank
+  shut-beyond v h = shut .beyond v h ∙ (rw is-blank (blank-beyond (N .nodes) row₀ wide v h))
+
+  -- the source's place is marked as not reached, so the source is open
+  pub begun-open : (source : ℕ) → source < N .nodes → getD row source 0 ≡ unreachedMark → Begun N source row₀ (set row source 0)
+  begun-open source h e = record {
+    size = length-set row source 0 ∙ shut-length;
+    source-zero = λ o. getD-set-same row source 0 0 (rw shut-length (omega arith));
+    unreached = λ v o n. getD-set-other row source v 0 0 n ∙ shut-open v o;
+    shut = λ v i c. getD-set-other row source v 0 0 (λ same. other (rw same at c)) ∙ shut .marked v i c;
+    beyond = λ v i. getD-set-other row source v 0 0 (λ same. let z : ⊥ = omega arith in z) ∙ shut-beyond v i;
+  }
+    where
+      other : ¬ Closed (N .closed) source
+      other c = let z : ⊥ = omega (arith, shut .marked source h c) in z
+
+  -- it is not, so the source is closed
+  pub begun-closed : (source : ℕ) → getD row source 0 ≢ unreachedMark → Begun N source row₀ row
+  begun-closed source f = record {
+    size = shut-length;
+    source-zero = λ o. absurd (f (shut-open source o));
+    unreached = λ v o n. shut-open v o;
+    shut = shut .marked;
+    beyond = shut-beyond;
+  }

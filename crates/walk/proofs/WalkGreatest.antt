@@ -16,7 +16,7 @@ use native.Mathlib.Omega.{arith}
 use borrow.Author.Tests.{ltb-true}
 use lib.Dec.{ltb}
 use lib.ListN.{length, getD}
-use Rattle.hall.specs.Floor.{Network, laneCount, lower, higher}
+use Rattle.hall.specs.Floor.{laneCount, lower, higher}
 use Rattle.walk.specs.Sweep.{Greatest, Clean}
 
 pub record Top (numbers : List ℕ) (i top : ℕ) : Type 0 where
@@ -47,8 +47,8 @@ module _ {numbers : List ℕ} {i top : ℕ} (t : Top numbers i top) where
   pub top-all : i ≡ length numbers → Greatest numbers top
   top-all e = record { most = λ j h. t .most j (omega arith); listed = rw e at (t .listed) }
 
-pub clean-greatest : (N : Network) {top : ℕ} → Greatest (N .lanes) top → Clean N (ltb top (N .nodes))
-clean-greatest N {top} g e i h = omega (arith, g .most i h, ltb-true top (N .nodes) e)
+pub clean-greatest : (nodes : ℕ) (lanes : List ℕ) {top : ℕ} → Greatest lanes top → Clean nodes lanes (ltb top nodes)
+clean-greatest nodes lanes {top} g e i h = omega (arith, g .most i h, ltb-true top nodes e)
 
-pub clean-lanes : (N : Network) {clean : Bool} → Clean N clean → clean ≡ true → (k : ℕ) → k < laneCount (N .lanes) → (lower (N .lanes) k < N .nodes) × (higher (N .lanes) k < N .nodes)
-clean-lanes N all e k h = (all e (2 * k) (omega arith), all e (2 * k + 1) (omega arith))
+pub clean-lanes : (nodes : ℕ) (lanes : List ℕ) {clean : Bool} → Clean nodes lanes clean → clean ≡ true → (k : ℕ) → k < laneCount lanes → (lower lanes k < nodes) × (higher lanes k < nodes)
+clean-lanes nodes lanes all e k h = (all e (2 * k) (omega arith), all e (2 * k + 1) (omega arith))

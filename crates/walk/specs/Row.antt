@@ -1,9 +1,11 @@
--- A row of distances from one source (rules 2.5, 2.6 and 9.2). Nothing here names a search.
+-- A row of distances from one source (rules 2.5 to 2.8 and 9.2). Nothing here names a search.
 --     RowServed    what the walk takes: at most 1,024 nodes, a source among them, and a place of the row for
---                  each node. Every lane list is taken: a walk stands on nodes, so a lane with an end that is
---                  no node is in no walk
+--                  each node. The source may be closed: there is no walk from it then. Every lane list is
+--                  taken: a walk stands on open nodes, so a lane with an end that is none is in no walk. So
+--                  is every list of closed nodes: an entry that is no node closes nothing
 --     RowFilled    the row afterwards: at each node's place the distance from the source to that node, or the
---                  mark where no walk joins the two; the places past the nodes are as they came
+--                  mark where no walk joins the two, as at a closed node; the places past the nodes are as
+--                  they came
 --     Rowed        the walk's answer and the row that it leaves: filled, or refused and as it came
 use mathlib.Core.Path.{_≡_}
 use mathlib.Core.Bool.{Bool, true, false}

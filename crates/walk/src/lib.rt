@@ -1,21 +1,24 @@
 // The distance walk: from one source, the distance of every node, or the mark 65,535 where there is no
-// walk (rules 2.5 and 2.6). It answers false for more than 1,024 nodes, a source that is no node and a row
-// with fewer places than nodes, and then leaves the row as it came. It serves every lane list, sorted or
-// not and of any length: a lane with an end that is no node takes part in no walk, and an odd last number
-// is no lane. It sweeps the lane list, there and back by turns, and at each lane lets the higher label
-// fall to one more than the lower. A label is the mark or the length of some walk all the time. It ends
-// when the next sweep has no lane, as after a sweep in which no label fell: then no lane lets a label
-// fall, and each label is a distance or the mark. The promise of `distances` names no sweep: it speaks of
-// walks and their lengths alone.
+// walk (rules 2.5 to 2.8). A closed node is in no walk, and from a closed source there is none. It answers
+// false for more than 1,024 nodes, a source that is no node and a row with fewer places than nodes, and
+// then leaves the row as it came. It serves every lane list, sorted or not and of any length: a lane with
+// an end that is no node takes part in no walk, and an odd last number is no lane. It serves every list
+// of closed nodes too: an entry that is no node closes nothing. It sweeps the lane list, there and back by
+// turns, and at each lane lets the higher label fall to one more than the lower. A label is the length of
+// some walk or one of two marks all the time: 65,534 at an open node that is not reached yet, and 65,535
+// at a closed one, which never falls. It ends when the next sweep has no lane, as after a sweep in which no
+// label fell: then no lane lets a label fall, and each label is a distance or a mark. What is not reached
+// gets 65,535 last. The promise of `distances` names no sweep: it speaks of walks and their lengths alone.
 //
-// Cost: one step a number of the lane list and one a node before the first sweep. A sweep looks at no lane
-// twice. There are at most as many sweeps as nodes, which `reach` counts and promises. How many goes by
-// the order of the lanes in the list. Sorted, as in a checked network, a line that is numbered along it
-// and a grid that is numbered row by row take three at the most; a line of three nodes or more that is
-// numbered in zigzag (n - 1, 0, n - 2, 1 and so on) takes as many as it has nodes, from its end n - 1. A
-// sweep begins where a label fell last in the sweep before it, since the lanes behind that place let no
-// label fall. The ends of the lanes are tested in the sweeps only where the list is not clean: its
-// greatest number is no node.
+// Cost: one step a number of the lane list, one an entry of the closed list and two a node beside the
+// sweeps. Whether a node is closed is seen in its label, and never looked up in the closed list. A sweep
+// looks at no lane twice. There are at most as many sweeps as nodes, which `reach` counts and promises. How
+// many goes by the order of the lanes in the list. Sorted, as in a checked network, and where no node is
+// closed, a line that is numbered along it and a grid that is numbered row by row take three at the most; a
+// line of three nodes or more that is numbered in zigzag (n - 1, 0, n - 2, 1 and so on) takes as many as it
+// has nodes, from its end n - 1. A sweep begins where a label fell last in the sweep before it, since the
+// lanes behind that place let no label fall. The ends of the lanes are tested in the sweeps only where the
+// list is not clean: its greatest number is no node.
 //
 // Working memory: some twenty numbers, and no list. The row is the caller's.
 use hall::Job;
@@ -25,19 +28,56 @@ ghost use mathlib.Core.Bool.{true};
 ghost use mathlib.Core.List.{_++_};
 ghost use lib.ListN.{length, replicate, drop};
 ghost use denote.Ref.{now};
-ghost use Rattle.hall.specs.Limits.{noWalkMark};
 ghost use Rattle.hall.specs.Floor.{networkOf};
 ghost use Rattle.walk.specs.Row.{RowServed, RowFilled, Rowed};
+ghost use Rattle.walk.specs.Sweep.{unreachedMark, Shut, Settled};
 ghost use Rattle.walk.specs.Sweep.{Greatest, Clean, Looked, Sweepable, LanesSwept};
+
+// The label of an open node that is not reached: above the length of every walk, below the mark of a closed
+// node.
+const UNREACHED: u16 = 65534;
 
 // The first `nodes` places of the row, marked as not reached.
 fn blank(nodes: usize, row: &mut [u16])
     requires { ⌜ nodes ≤ length (now row) ⌝ }
-    ensures { λ _. ⌜ now (row .exit) ≡ replicate nodes noWalkMark ++ drop nodes (now (row .entry)) ⌝ }
+    ensures { λ _. ⌜ now (row .exit) ≡ replicate nodes unreachedMark ++ drop nodes (now (row .entry)) ⌝ }
 {
     let mut i: usize = 0;
     while i < nodes {
-        row[i] = Job::NO_WALK;
+        row[i] = UNREACHED;
+        i += 1;
+    }
+}
+
+// The places of the closed nodes get the mark for "no walk". An entry that is no node is passed over.
+fn shut(nodes: usize, closed: &[u16], row: &mut [u16])
+    requires { ⌜ nodes ≤ length (now row) ⌝ }
+    ensures { λ _. ⌜ Shut nodes (now (closed .entry)) (now (row .entry)) (now (row .exit)) ⌝ }
+{
+    let count = closed.len();
+    let mut k: usize = 0;
+    while k < count {
+        let place = closed[k] as usize;
+        if place < nodes {
+            row[place] = Job::NO_WALK;
+        }
+        k += 1;
+    }
+}
+
+// The open nodes that no sweep has reached get the mark for "no walk" too.
+fn settle(nodes: usize, row: &mut [u16])
+    requires { ⌜ nodes ≤ length (now row) ⌝ }
+    ensures { λ _. ⌜ Settled nodes (now (row .entry)) (now (row .exit)) ⌝ }
+{
+    let mut i: usize = 0;
+    while i < nodes {
+        let label = row[i];
+        row[i] = if label == UNREACHED {
+            Job::NO_WALK
+        } else {
+            label
+        };
         i += 1;
     }
 }
@@ -58,8 +98,8 @@ fn greatest(numbers: &[u16]) -> u16
 }
 
 // One look at a lane: where both ends are nodes, and their labels are two or more apart, the higher label
-// falls to one more than the lower. The answer is whether it fell. In a clean list the ends are not
-// tested.
+// falls to one more than the lower, if it is not that of a closed node. The answer is whether it fell. In a
+// clean list the ends are not tested. A closed node lets no label fall either: none is two above its mark.
 fn look(nodes: usize, clean: bool, a: u16, b: u16, row: &mut [u16]) -> bool
     requires { ⌜ (nodes ≤ length (now row))
         × (clean ≡ true → a < nodes)
@@ -83,8 +123,14 @@ fn look(nodes: usize, clean: bool, a: u16, b: u16, row: &mut [u16]) -> bool
         return false;
     }
     if x < y {
+        if y == Job::NO_WALK {
+            return false;
+        }
         row[second] = x + 1;
     } else {
+        if x == Job::NO_WALK {
+            return false;
+        }
         row[first] = y + 1;
     }
     true
@@ -102,9 +148,9 @@ fn sweep(
     todo: usize,
     row: &mut [u16],
 ) -> usize
-    requires { ⌜ Clean (networkOf nodes (now lanes)) clean
-        × Sweepable (networkOf nodes (now lanes)) back todo (now row) ⌝ }
-    ensures { λ r. ⌜ LanesSwept (networkOf nodes (now (lanes .entry))) back
+    requires { ⌜ Clean nodes (now lanes) clean
+        × Sweepable nodes (now lanes) back todo (now row) ⌝ }
+    ensures { λ r. ⌜ LanesSwept nodes (now (lanes .entry)) back
         (now (row .entry)) (now (row .exit)) r ⌝ }
 {
     let count = lanes.len() / 2;
@@ -125,9 +171,9 @@ fn sweep(
 
 // The distance walk itself: sweeps, there and back by turns, until the next one has no lane. The answer is
 // how many there were; it stands in the promise, and no caller needs it.
-fn reach(nodes: usize, lanes: &[u16], source: u16, row: &mut [u16]) -> usize
-    requires { ⌜ RowServed (networkOf nodes (now lanes)) source (now row) ⌝ }
-    ensures { λ r. ⌜ RowFilled (networkOf nodes (now (lanes .entry))) source
+fn reach(nodes: usize, lanes: &[u16], closed: &[u16], source: u16, row: &mut [u16]) -> usize
+    requires { ⌜ RowServed (networkOf nodes (now lanes) (now closed)) source (now row) ⌝ }
+    ensures { λ r. ⌜ RowFilled (networkOf nodes (now (lanes .entry)) (now (closed .entry))) source
         (now (row .entry)) (now (row .exit))
         × (r ≤ nodes) ⌝ }
 {
@@ -135,7 +181,10 @@ fn reach(nodes: usize, lanes: &[u16], source: u16, row: &mut [u16]) -> usize
     let top = greatest(lanes) as usize;
     let clean = top < nodes;
     blank(nodes, row);
-    row[place] = 0;
+    shut(nodes, closed, row);
+    if row[place] == UNREACHED {
+        row[place] = 0;
+    }
     let mut sweeps: usize = 0;
     let mut back = false;
     let mut todo = lanes.len() / 2;
@@ -144,12 +193,13 @@ fn reach(nodes: usize, lanes: &[u16], source: u16, row: &mut [u16]) -> usize
         back = !back;
         sweeps += 1;
     }
+    settle(nodes, row);
     sweeps
 }
 
 // The distances from the source, one place of the row a node; whether they were worked out.
-pub fn distances(nodes: usize, lanes: &[u16], source: u16, row: &mut [u16]) -> bool
-    ensures { λ r. ⌜ Rowed (networkOf nodes (now (lanes .entry))) source
+pub fn distances(nodes: usize, lanes: &[u16], closed: &[u16], source: u16, row: &mut [u16]) -> bool
+    ensures { λ r. ⌜ Rowed (networkOf nodes (now (lanes .entry)) (now (closed .entry))) source
         (now (row .entry)) (now (row .exit)) r ⌝ }
 {
     let first = source as usize;
@@ -163,6 +213,6 @@ pub fn distances(nodes: usize, lanes: &[u16], source: u16, row: &mut [u16]) -> b
     if nodes > places {
         return false;
     }
-    reach(nodes, lanes, source, row);
+    reach(nodes, lanes, closed, source, row);
     true
 }

@@ -2,7 +2,7 @@
 -- job with a fault is refused with another number, and the output is zeroed; a job without one is put at the
 -- front of the output, with zeros behind it, and has room there (form's `written-fits`). Assumes nothing.
 --     short-refused     9
---     job-refused       2 to 7
+--     job-refused       one of the listed checks
 --     job-written       the text
 use mathlib.Core.Path.{_≡_, refl, sym, _∙_}
 use mathlib.Core.List.{List}

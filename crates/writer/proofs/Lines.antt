@@ -5,8 +5,10 @@
 --     no-pairs, next-pair        the lines of the first pairs of a list: of none, and of one more; all-pairs
 --                                those of all, an odd last number left out
 --     no-singles, next-single    the same of single numbers
+--     closed-unwritten, closed-written    the section of the closed nodes: nothing, or its line and entries
 --     job-parts                  the text of a job by the lines of its sections
 use mathlib.Core.Path.{_≡_, refl, sym, _∙_, ap}
+use mathlib.Core.Logic.{_≢_}
 use mathlib.Core.List.{List, [], _∷_, _++_, append-assoc, append-nil}
 use Prim.Native.Nat.{ℕ, suc, _+_, _*_, _/_, _<_}
 use native.Mathlib.Numerals.{add-one}
@@ -17,10 +19,10 @@ use Rattle.hall.specs.Floor.{laneCount}
 use Rattle.hall.specs.Job.{Numbers, carriers}
 use Rattle.put.specs.Digits.{digits, field}
 use Rattle.form.specs.Lines.{further, entryLine, countLine, entryLines}
-use Rattle.form.specs.Words.{NODES, LANES, CARRIERS, ORDER}
+use Rattle.form.specs.Words.{NODES, LANES, CLOSED, CARRIERS, ORDER}
 use Rattle.form.specs.Contents.{written}
-use Rattle.form.specs.Jobs.{pairs, singles, textOf}
-use Rattle.form.proofs.Steps.{entries-append}
+use Rattle.form.specs.Jobs.{pairs, singles, closedContents, textOf}
+use Rattle.form.proofs.Steps.{entries-append, written-append}
 use Rattle.form.proofs.Rows.{pairs-next, pairs-whole, singles-next}
 
 pub count-parts : (word : List ℕ) (count : ℕ) → countLine word count ≡ word ++ ((32 ∷ []) ++ field count 10)
@@ -72,12 +74,24 @@ all-singles l i e = rw (e, take-length)
 
 -- ---- the sections
 
+pub closed-unwritten : (l : List ℕ) → length l ≡ 0 → written (closedContents l) ≡ []
+unfolding written
+closed-unwritten [] h = refl
+closed-unwritten (a ∷ l) h = absurd (let x : ⊥ = omega arith in x)
+
+pub closed-written : (l : List ℕ) → length l ≢ 0 →
+    written (closedContents l) ≡ (countLine CLOSED (length l) ++ entryLines (singles l)) ++ []
+unfolding written
+closed-written [] h = absurd (h refl)
+closed-written (a ∷ l) h = refl
+
 pub job-parts : (j : Numbers) →
     textOf j
     ≡ (countLine NODES (j .network .nodes) ++ [])
     ++ ((countLine LANES (laneCount (j .network .lanes)) ++ entryLines (pairs (j .network .lanes)))
+    ++ (written (closedContents (j .network .closed))
     ++ ((countLine CARRIERS (carriers j) ++ entryLines (pairs (j .moves)))
     ++ ((countLine ORDER (length (j .order)) ++ entryLines (singles (j .order)))
-    ++ [])))
+    ++ []))))
 unfolding written entryLines
-job-parts j = refl
+job-parts j = rw (written-append (closedContents (j .network .closed)) _)

@@ -1,4 +1,4 @@
--- `asks::check_asked` meets its contract: the checks 2 to 7 of the job decide first, then the walks of all
+-- `asks::check_asked` meets its contract: the listed checks of the job decide first, then the walks of all
 -- its carriers, then the number named. Each refusal is the first fault of the whole, since what comes before
 -- it is settled. That the checks are passed also gives what the search for 8 starts from. Assumes nothing.
 use mathlib.Core.List.{[], _∷_}
@@ -15,22 +15,24 @@ use Rattle.asks.proofs.check_asked.Tie as tie
 
 -- the job that is asked about
 abbrev job : tie.Start → Numbers
-job c = jobOf (networkOf (c .args .nodes) (c .args .lanes .now)) (c .args .moves .now) (c .args .order .now)
+job c =
+    jobOf (networkOf (c .args .nodes) (c .args .lanes .now) (c .args .closed .now))
+    (c .args .moves .now) (c .args .order .now)
 
--- the job has passed the checks 2 to 7
+-- the job has passed the listed checks
 job-sound : (c : tie.After-enum-told2) →
-    None (checksQuestion (job (c .before .before .before .before .before .before .before)))
+    None (checksQuestion (job (c .before .before .before .before .before .before .before .before)))
 job-sound c =
     let checked = c .before .before .before in
-    sound-none (checksQuestion (job (checked .before .before .before .before)))
+    sound-none (checksQuestion (job (checked .before .before .before .before .before)))
     (c .enum-told2 .given .1) (checked .check-job .ensures)
 
--- and what is answered of its walks is answered of 2 to 8
+-- and what is answered of its walks is answered of these and 8
 reach-judged : (c : tie.After-check-reach) →
-    Judged (jobQuestion (job (c .before .before .before .before .before .before .before .before)))
+    Judged (jobQuestion (job (c .before .before .before .before .before .before .before .before .before)))
     (c .check-reach .result)
 reach-judged c =
-    let j = job (c .before .before .before .before .before .before .before .before) in
+    let j = job (c .before .before .before .before .before .before .before .before .before) in
     judged-after (checksQuestion j) (eachWalk (j .network) (j .moves) ∷ []) (job-sound (c .before))
     (c .check-reach .result) (c .check-reach .ensures)
 
@@ -46,7 +48,7 @@ enum-told c = search needs
 returns : tie.Need-returns
 returns c =
     let checked = c .before .before .before in
-    let start = checked .before .before .before .before in
+    let start = checked .before .before .before .before .before in
     let j = job start in
     judged-stop (checksQuestion j)
     (eachWalk (j .network) (j .moves) ∷ lacking (carriers j) (start .args .carrier .0) ∷ [])
@@ -57,7 +59,7 @@ enum-told-2 c = search needs
 
 check-reach-requires : tie.Need-check-reach-requires
 check-reach-requires c κs =
-    let j = job (c .before .before .before .before .before .before .before) in
+    let j = job (c .before .before .before .before .before .before .before .before) in
     record { few = nodes-limit j (job-sound c); ends = ends-on j (job-sound c) }
 
 enum-told-3 : tie.Need-enum-told-3
@@ -67,7 +69,7 @@ returns-2 : tie.Need-returns-2
 returns-2 c =
     let reach = c .before .before in
     let sound = reach .before in
-    let start = sound .before .before .before .before .before .before .before in
+    let start = sound .before .before .before .before .before .before .before .before in
     judged-stop (jobQuestion (job start)) (lacking (carriers (job start)) (start .args .carrier .0) ∷ [])
     (c .enum-told3 .given .1) (reach-judged reach)
 
@@ -79,7 +81,7 @@ returns-3 c =
     let reach = c .before .before in
     let sound = reach .before in
     let number = sound .before .before in
-    let start = number .before .before .before .before .before in
+    let start = number .before .before .before .before .before .before in
     judged-then (jobQuestion (job start)) (lacking (carriers (job start)) (start .args .carrier .0) ∷ [])
     (c .enum-told4 .given .1) (reach-judged reach)
     (number .check-number .result) (number .check-number .ensures)

@@ -16,16 +16,16 @@ use Rattle.asks.proofs.check_reach.Statement.{statement}
 use Rattle.asks.proofs.check_reach.Tie as tie
 
 abbrev Inv-loop : tie.InvT-loop
-Inv-loop nodes lanes moves count i₀ i =
-    (count ≡ length moves / 2) × (i ≤ count) × Passed (walkChecks (networkOf nodes lanes) moves) i
+Inv-loop nodes lanes closed moves count i₀ i =
+    (count ≡ length moves / 2) × (i ≤ count) × Passed (walkChecks (networkOf nodes lanes closed) moves) i
 
 abbrev μ-loop : tie.MeasureT-loop
-μ-loop nodes lanes moves count i₀ i = count - i
+μ-loop nodes lanes closed moves count i₀ i = count - i
 
 loop-holds : tie.Need-loop-holds Inv-loop μ-loop
 loop-holds c =
-    let args = c .before .before .args in
-    let network = networkOf (args .nodes) (args .lanes .now) in
+    let args = c .before .before .before .args in
+    let network = networkOf (args .nodes) (args .lanes .now) (args .closed .now) in
     (refl, omega arith, loop-begins (walkChecks network (args .moves .now)))
 
 mul-at : tie.Need-mul-at Inv-loop μ-loop
@@ -50,10 +50,14 @@ cut-off-requires : tie.Need-cut-off-requires Inv-loop μ-loop
 cut-off-requires c κs =
     let in-loop = c .before .before in
     let loop = in-loop .before in
-    let walkable = loop .before .before .before .pre in
+    let walkable = loop .before .before .before .before .pre in
     let there = in-loop .loop-test .taken in
     let ends = walkable .ends in
-    (walkable .few, ends .starts _ (omega (arith, there)), ends .goals _ (omega (arith, there)))
+    let i = loop .loop .i in (
+      walkable .few,
+      ends .starts i (omega (arith, there)) .numbered,
+      ends .goals i (omega (arith, there)) .numbered,
+    )
 
 returns : tie.Need-returns Inv-loop μ-loop
 returns c =
@@ -61,8 +65,8 @@ returns c =
     let in-loop = called .before .before .before in
     let loop = in-loop .before in
     let none = affirmed _ (c .if1 .taken) (called .cut-off .ensures) in
-    let args = loop .before .before .before .args in
-    let checks = walkChecks (networkOf (args .nodes) (args .lanes .now)) (args .moves .now) in
+    let args = loop .before .before .before .before .args in
+    let checks = walkChecks (networkOf (args .nodes) (args .lanes .now) (args .closed .now)) (args .moves .now) in
     first-here (each-first checks (in-loop .loop-test .taken) (loop .loop .inv .2) (here (refl, none)))
 
 add-i : tie.Need-add-i Inv-loop μ-loop
@@ -77,8 +81,8 @@ loop-again c =
     let loop = called .before .before .before .before in
     let some = denied _ (c .if1 .left) (called .cut-off .ensures) in
     let passed = loop .loop .inv .2 .clear in
-    let args = loop .before .before .before .args in
-    let checks = walkChecks (networkOf (args .nodes) (args .lanes .now)) (args .moves .now) in
+    let args = loop .before .before .before .before .args in
+    let checks = walkChecks (networkOf (args .nodes) (args .lanes .now) (args .closed .now)) (args .moves .now) in
     (refl, omega arith, record { clear = below-more (ClearAt checks) _ passed (some, tt) })
 
 returns-2 : tie.Need-returns-2 Inv-loop μ-loop

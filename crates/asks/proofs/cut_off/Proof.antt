@@ -10,11 +10,11 @@ use Rattle.asks.proofs.cut_off.Statement.{statement}
 use Rattle.asks.proofs.cut_off.Tie as tie
 
 -- the distance that the walk has left at the goal
-goal-distance : (c : tie.After-row2) → let args = c .before .before .before .before .args in
-    DistanceIs (floor (networkOf (args .nodes) (args .lanes .now))) (args .start) (args .goal)
-    (getD (c .before .distances .last .1 .1 .1 .0) (args .goal) 0)
+goal-distance : (c : tie.After-row2) → let args = c .before .before .before .before .before .args in
+    DistanceIs (floor (networkOf (args .nodes) (args .lanes .now) (args .closed .now))) (args .start) (args .goal)
+    (getD (c .before .distances .last .1 .1 .1 .1 .0) (args .goal) 0)
 goal-distance c =
-    let pre = c .before .before .before .before .pre in
+    let pre = c .before .before .before .before .before .pre in
     rowed-served (record { few = pre .0; on-floor = pre .1; wide = search needs })
     (c .before .distances .ensures) .1 .holds _ (pre .2)
 

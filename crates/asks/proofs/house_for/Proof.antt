@@ -19,28 +19,30 @@ use Rattle.asks.proofs.house_for.Tie as tie
 
 -- the job that is asked about
 abbrev job : tie.Start → Numbers
-job c = jobOf (networkOf (c .args .nodes) (c .args .lanes .now)) (c .args .moves .now) (c .args .order .now)
+job c =
+    jobOf (networkOf (c .args .nodes) (c .args .lanes .now) (c .args .closed .now))
+    (c .args .moves .now) (c .args .order .now)
 
 -- neither the job nor the number is at fault, and so the carrier has a move
 asked-sound : (c : tie.After-enum-told) →
-    let begin = c .before .before .before .before .before .before .before .before in
+    let begin = c .before .before .before .before .before .before .before .before .before in
     None (askedQuestion (job begin) (begin .args .carrier .0))
 asked-sound c =
     let asked = c .before .before in
-    let begin = asked .before .before .before .before .before .before in
+    let begin = asked .before .before .before .before .before .before .before in
     sound-none (askedQuestion (job begin) (begin .args .carrier .0))
     (c .enum-told .given .1) (asked .check-asked .ensures)
 
 carrier-below : (c : tie.After-enum-told) →
-    let begin = c .before .before .before .before .before .before .before .before in
+    let begin = c .before .before .before .before .before .before .before .before .before in
     begin .args .carrier .0 < carriers (job begin)
 carrier-below c =
-    let begin = c .before .before .before .before .before .before .before .before in
+    let begin = c .before .before .before .before .before .before .before .before .before in
     carrier-there (job begin) (begin .args .carrier .0) (asked-sound c)
 
 returns : tie.Need-returns
 returns c =
-    let begin = c .before .before .before .before .before in
+    let begin = c .before .before .before .before .before .before in
     let j = job begin in
     let n = begin .args .carrier .0 in
     record {
@@ -68,7 +70,7 @@ returns-2 c =
     let told = zeros .before .before .before in
     let asked = told .before .before in
     let room = asked .before in
-    let begin = room .before .before .before .before .before in
+    let begin = room .before .before .before .before .before .before in
     let j = job begin in
     let n = begin .args .carrier .0 in
     record {
@@ -118,7 +120,7 @@ returns-3 c =
     let house = c .before .before in
     let sound = house .before .before .before .before .before in
     let room = sound .before .before .before in
-    let begin = room .before .before .before .before .before in
+    let begin = room .before .before .before .before .before .before in
     record {
       given =
           house-of-move (job begin) (begin .args .carrier .0) (begin .args .path .now) _

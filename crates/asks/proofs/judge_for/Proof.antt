@@ -19,7 +19,9 @@ use Rattle.asks.proofs.judge_for.Tie as tie
 
 -- the job that is asked about
 abbrev job : tie.Start → Numbers
-job c = jobOf (networkOf (c .args .nodes) (c .args .lanes .now)) (c .args .moves .now) (c .args .order .now)
+job c =
+    jobOf (networkOf (c .args .nodes) (c .args .lanes .now) (c .args .closed .now))
+    (c .args .moves .now) (c .args .order .now)
 
 -- 11, of the list that is asked about
 abbrev Misfit : tie.Start → Type 0
@@ -29,19 +31,19 @@ Misfit c =
 
 -- neither the job nor the number is at fault, and so the carrier has a move
 asked-sound : (c : tie.After-enum-told2) →
-    let begin = c .before .before .before .before .before .before .before in
+    let begin = c .before .before .before .before .before .before .before .before in
     None (askedQuestion (job begin) (begin .args .carrier .0))
 asked-sound c =
     let asked = c .before .before in
-    let begin = asked .before .before .before .before .before in
+    let begin = asked .before .before .before .before .before .before in
     sound-none (askedQuestion (job begin) (begin .args .carrier .0))
     (c .enum-told2 .given .1) (asked .check-asked .ensures)
 
 carrier-below : (c : tie.After-enum-told2) →
-    let begin = c .before .before .before .before .before .before .before in
+    let begin = c .before .before .before .before .before .before .before .before in
     begin .args .carrier .0 < carriers (job begin)
 carrier-below c =
-    let begin = c .before .before .before .before .before .before .before in
+    let begin = c .before .before .before .before .before .before .before .before in
     carrier-there (job begin) (begin .args .carrier .0) (asked-sound c)
 
 check-asked-requires : tie.Need-check-asked-requires
@@ -53,7 +55,7 @@ enum-told c = search needs
 returns : tie.Need-returns
 returns c =
     let asked = c .before .before in
-    let begin = asked .before .before .before .before .before in
+    let begin = asked .before .before .before .before .before .before in
     record {
       judged =
           judged-stop (askedQuestion (job begin) (begin .args .carrier .0)) (unfit (Misfit begin) ∷ [])
@@ -96,7 +98,7 @@ judge-requires c κs = search needs
 returns-2 : tie.Need-returns-2
 returns-2 c =
     let sound = c .before .before .before .before in
-    let begin = sound .before .before .before .before .before .before .before in
+    let begin = sound .before .before .before .before .before .before .before .before in
     record {
       judged =
           list-of-move (job begin) (begin .args .carrier .0) (asked-sound sound) (Misfit begin)

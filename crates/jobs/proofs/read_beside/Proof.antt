@@ -8,7 +8,7 @@ use Rattle.jobs.proofs.read_beside.Statement.{statement}
 use Rattle.jobs.proofs.read_beside.Tie as tie
 
 returns : tie.Need-returns
-returns c = few _ (c .if1 .taken) refl refl refl refl
+returns c = few _ (c .if1 .taken) refl refl refl refl refl
 
 read-numbers-requires : tie.Need-read-numbers-requires
 read-numbers-requires c κs = search needs
@@ -22,8 +22,12 @@ same-length-2 c = search needs
 same-length-3 : tie.Need-same-length-3
 same-length-3 c = search needs
 
+same-length-4 : tie.Need-same-length-4
+same-length-4 c = search needs
+
 returns-2 : tie.Need-returns-2
-returns-2 c = enough _ (omega arith) (c .before .before .before .before .before .before .read-numbers .ensures)
+returns-2 c =
+    enough _ (omega arith) (c .before .before .before .before .before .before .before .before .read-numbers .ensures)
 
 pub read-beside-spec : {M : Type 1} → statement M
 read-beside-spec =
@@ -34,4 +38,5 @@ read-beside-spec =
     same-length
     same-length-2
     same-length-3
+    same-length-4
     returns-2)

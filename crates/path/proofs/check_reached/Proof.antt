@@ -1,4 +1,4 @@
--- `path::check_reached` meets its contract: the checks 2 to 5 first, and a refusal of theirs is the first
+-- `path::check_reached` meets its contract: the checks before 8 first, and a refusal of theirs is the first
 -- fault. If they find none, the distance walk serves the goal and fills the row, whose place for the start
 -- tells whether there is a walk. Assumes nothing.
 use mathlib.Core.List.{[], _∷_}
@@ -17,26 +17,26 @@ use Rattle.path.proofs.check_reached.Tie as tie
 
 -- the network that is asked about
 abbrev network : tie.Start → Network
-network c = networkOf (c .args .nodes) (c .args .lanes .now)
+network c = networkOf (c .args .nodes) (c .args .lanes .now) (c .args .closed .now)
 
 -- the checks have found no fault
-checks-sound : (c : tie.After-enum-told2) → let start = c .before .before .before .before .before in
+checks-sound : (c : tie.After-enum-told2) → let start = c .before .before .before .before .before .before in
     None (moveEnds (network start) (start .args .start) (start .args .goal))
 checks-sound c =
     let called = c .before .before in
-    let start = called .before .before .before in
+    let start = called .before .before .before .before in
     sound-none (moveEnds (network start) (start .args .start) (start .args .goal))
     (c .enum-told2 .given .1) (called .check-move .ensures)
 
 -- so the walk has filled the row
 row-filled : (c : tie.After-slice-known3) →
-    let start = c .before .before .before .before .before .before .before .before .before .before in
+    let start = c .before .before .before .before .before .before .before .before .before .before .before in
     RowFilled (network start) (start .args .goal) (start .args .row .now)
-    (c .before .before .before .distances .last .1 .1 .1 .0)
+    (c .before .before .before .distances .last .1 .1 .1 .1 .0)
 row-filled c =
     let walked = c .before .before .before in
     let told = walked .before .before in
-    let start = told .before .before .before .before .before in
+    let start = told .before .before .before .before .before .before in
     let few = few-nodes (network start) (start .args .start) (start .args .goal) (checks-sound told) in
     rowed-served
     (record {
@@ -55,7 +55,7 @@ enum-told c = search needs
 returns : tie.Need-returns
 returns c =
     let called = c .before .before in
-    let start = called .before .before .before in
+    let start = called .before .before .before .before in
     let args = start .args in
     record {
       judged =
@@ -77,7 +77,7 @@ mul-distance c = search needs
 slice-read-distance : tie.Need-slice-read-distance
 slice-read-distance c =
     let told = c .before .before .before .before .before in
-    let start = told .before .before .before .before .before in
+    let start = told .before .before .before .before .before .before in
     let on-floor = start-node (network start) (start .args .start) (start .args .goal) (checks-sound told) in
     let few = few-nodes (network start) (start .args .start) (start .args .goal) (checks-sound told) in
     omega (arith, on-floor, few, row-filled c .size, start .pre)
@@ -96,7 +96,7 @@ same-length-2 c = search needs
 returns-3 : tie.Need-returns-3
 returns-3 c =
     let told = c .before .before .before .before .before .before in
-    let size = told .before .before .before .before .before .pre in
+    let size = told .before .before .before .before .before .before .pre in
     walk-there _ _ _ (checks-sound told) (row-filled (c .before)) size (c .if1 .left)
 
 pub check-reached-spec : {M : Type 1} → statement M

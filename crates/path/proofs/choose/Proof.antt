@@ -12,7 +12,7 @@ use Rattle.path.proofs.choose.Tie as tie
 
 -- the network that is asked about
 abbrev network : tie.Start → Network
-network c = networkOf (c .args .nodes) (c .args .lanes .now)
+network c = networkOf (c .args .nodes) (c .args .lanes .now) (c .args .closed .now)
 
 judge-requires : tie.Need-judge-requires
 judge-requires c κs = search needs
@@ -29,7 +29,8 @@ enum-told-2 : tie.Need-enum-told-2
 enum-told-2 c = search needs
 
 -- the own list was refused
-own-fails : (c : tie.After-enum-told2) → let start = c .before .before .before .before .before .before in
+own-fails : (c : tie.After-enum-told2) →
+    let start = c .before .before .before .before .before .before .before in
     ¬ Passes (network start) (start .args .start) (start .args .goal) (start .args .own .now)
 own-fails c = refused-fails _ _ _ _ (c .enum-told2 .given .1) (c .before .before .judge .ensures .judged)
 

@@ -14,7 +14,7 @@ use Rattle.path.proofs.house.Tie as tie
 
 -- the network that is asked about
 abbrev network : tie.Start → Network
-network c = networkOf (c .args .nodes) (c .args .lanes .now)
+network c = networkOf (c .args .nodes) (c .args .lanes .now) (c .args .closed .now)
 
 -- and what is asked of it behind 9
 abbrev question : tie.Start → Question
@@ -22,7 +22,7 @@ question c = moveQuestion (network c) (c .args .start) (c .args .goal)
 
 returns : tie.Need-returns
 returns c =
-    let start = c .before .before .before in
+    let start = c .before .before .before .before in
     record {
       given =
           left-short (question start) (network start) (start .args .start) (start .args .goal)
@@ -48,7 +48,7 @@ same-length c = search needs
 returns-2 : tie.Need-returns-2
 returns-2 c =
     let zeros = c .before .before .before .before .before .before .before .before in
-    let start = zeros .before .before .before .before .before in
+    let start = zeros .before .before .before .before .before .before in
     let reached = c .before .before .before .before .check-reached .ensures in
     record {
       given =
@@ -62,13 +62,16 @@ enum-told : tie.Need-enum-told
 enum-told c = search needs
 
 slice-aggregate-lay : tie.Need-slice-aggregate-lay
-slice-aggregate-lay c = omega (arith, c .before .before .before .before .check-reached .kept .1 .1 .1 .1 .0)
+slice-aggregate-lay c =
+    omega (arith, c .before .before .before .before .check-reached .kept .1 .1 .1 .1 .1 .0)
 
 lay-requires : tie.Need-lay-requires
 lay-requires c κs =
     let told = c .before .before in
     let reached = told .before .before .before .check-reached .ensures in
-    let zeros = told .before .before .before .before .before .before .before in (
+    let zeros = told .before .before .before .before .before .before .before in
+    let start = zeros .before .before .before .before .before .before in (
+      start .args .closed .now,
       reached .downhill (told .enum-told .given .1),
       omega (arith, zeros .zero-first .kept .0, zeros .before .before .if1 .left),
     )
@@ -80,15 +83,16 @@ returns-3 : tie.Need-returns-3
 returns-3 c =
     let told = c .before .before .before .before .before in
     let zeros = told .before .before .before .before .before .before .before in
-    let start = zeros .before .before .before .before .before in
+    let start = zeros .before .before .before .before .before .before in
     let reached = told .before .before .before .check-reached .ensures in
     let none = sound-none (question start) (told .enum-told .given .1) (reached .judged) in
+    let down = reached .downhill (told .enum-told .given .1) in
     record {
       given =
           left-accepted (question start) (network start) (start .args .start) (start .args .goal)
           (start .args .path .now) (zeros .before .before .if1 .left) none
           (house-laid (start .args .path .now)
-          (zeros .zero-first .ensures) (c .before .before .lay .ensures));
+          (zeros .zero-first .ensures) (c .before .before .lay .ensures (start .args .closed .now) down));
       network-kept = refl;
     }
 

@@ -4,14 +4,13 @@ use mathlib.Core.Path.{_≡_, refl}
 use Prim.Native.Nat.{_-_, _≤_}
 use native.Mathlib.Omega.{arith}
 use lib.ListN.{length}
-use Rattle.hall.specs.Floor.{networkOf}
 use Rattle.path.proofs.NextNode.{Seeking, seeking-none, seeking-lane, seeking-all}
 use Rattle.path.proofs.next_node.Statement.{statement}
 use Rattle.path.proofs.next_node.Tie as tie
 
 abbrev Inv-loop : tie.InvT-loop
 Inv-loop nodes lanes row u wanted count best₀ i₀ best i =
-    (count ≡ length lanes) × (i ≤ count) × Seeking (networkOf nodes lanes) row u wanted i best
+    (count ≡ length lanes) × (i ≤ count) × Seeking nodes lanes row u wanted i best
 
 abbrev μ-loop : tie.MeasureT-loop
 μ-loop nodes lanes row u wanted count best₀ i₀ best i = count - i
@@ -19,8 +18,8 @@ abbrev μ-loop : tie.MeasureT-loop
 loop-holds : tie.Need-loop-holds Inv-loop μ-loop
 loop-holds c =
     let args = c .before .before .args in
-    let network = networkOf (args .nodes) (args .lanes .now) in
-    (refl, omega arith, seeking-none network (args .row .now) (args .u) (args .wanted))
+    let seeking = seeking-none (args .nodes) (args .lanes .now) (args .row .now) (args .u) (args .wanted) in
+    (refl, omega arith, seeking)
 
 add-loop : tie.Need-add-loop Inv-loop μ-loop
 add-loop c = omega arith

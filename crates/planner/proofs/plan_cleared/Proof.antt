@@ -1,4 +1,4 @@
--- `planner::plan_cleared` meets its contract: the first of the checks 2 to 7 is the first fault, since no
+-- `planner::plan_cleared` meets its contract: the first of the listed checks is the first fault, since no
 -- list is short, and leaves the lists zero as they are; where the checks find nothing, the rest is planned.
 -- There is no loop. Assumes nothing.
 use borrow.Author.Needs.{needs}
@@ -13,7 +13,10 @@ use Rattle.planner.proofs.plan_cleared.Tie as tie
 
 -- the job, and the lists as they came
 abbrev job-of : tie.Start → Numbers
-job-of s = jobOf (networkOf (s .args .nodes) (s .args .lanes .now)) (s .args .moves .now) (s .args .order .now)
+job-of s =
+    jobOf (networkOf (s .args .nodes) (s .args .lanes .now) (s .args .closed .now))
+    (s .args .moves .now)
+    (s .args .order .now)
 
 abbrev lent-of : tie.Start → Lent
 lent-of s = lent (s .args .table .now) (s .args .distances .now) (s .args .ticks .now)
@@ -26,7 +29,7 @@ enum-known-judged c = search needs
 
 returns : tie.Need-returns
 returns c =
-    let s = c .before .before .before .before .before .before .before .before .before .before in
+    let s = c .before .before .before .before .before .before .before .before .before .before .before in
     checked-refuses (job-of s) (lent-of s) (s .pre) (c .before .judged .given .1) (c .before .before .before .check-job .ensures)
 
 enum-told : tie.Need-enum-told
@@ -35,7 +38,7 @@ enum-told c = search needs
 plan-sound-requires : tie.Need-plan-sound-requires
 plan-sound-requires c κs =
     let told = c .before .before .before in
-    let s = told .before .before .before .before .before .before .before .before .before in
+    let s = told .before .before .before .before .before .before .before .before .before .before in
     (s .pre, sound-none (checksQuestion (job-of s)) (told .enum-told .given .1) (told .before .before .check-job .ensures))
 
 same-length : tie.Need-same-length

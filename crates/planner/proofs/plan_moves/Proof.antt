@@ -14,13 +14,16 @@ use Rattle.planner.proofs.plan_moves.Tie as tie
 
 -- the job, and the lists as they came
 abbrev job-of : tie.Start → Numbers
-job-of s = jobOf (networkOf (s .args .nodes) (s .args .lanes .now)) (s .args .moves .now) (s .args .order .now)
+job-of s =
+    jobOf (networkOf (s .args .nodes) (s .args .lanes .now) (s .args .closed .now))
+    (s .args .moves .now)
+    (s .args .order .now)
 
 abbrev lent-of : tie.Start → Lent
 lent-of s = lent (s .args .table .now) (s .args .distances .now) (s .args .ticks .now)
 
 -- past the first test no list is short
-roomy : (c : tie.Else1) → ¬ ShortOf (lent-of (c .before .before .before .before .before .before .before .before))
+roomy : (c : tie.Else1) → ¬ ShortOf (lent-of (c .before .before .before .before .before .before .before .before .before))
 roomy c = denied (c .before .short .result) (c .if1 .left) (c .before .short .ensures)
 
 -- the lists once all three are cleared
@@ -36,7 +39,7 @@ refused-requires c κs = search needs
 returns : tie.Need-returns
 returns c =
     let called = c .before .before in
-    let s = called .before .before .before .before .before .before .before in
+    let s = called .before .before .before .before .before .before .before .before in
     rw (c .refused .ensures)
     (record {
       first = short-first (job-of s) (lent-of s) (affirmed (called .short .result) (c .before .if1 .taken) (called .short .ensures));
@@ -54,13 +57,13 @@ zero-first-requires-2 c κs = search needs
 zero-ticks-requires : tie.Need-zero-ticks-requires
 zero-ticks-requires c κs =
     let tested = c .before .before .before .before .before .before .before .before .before in
-    roomy-ticks (lent-of (tested .before .before .before .before .before .before .before .before)) (roomy tested)
+    roomy-ticks (lent-of (tested .before .before .before .before .before .before .before .before .before)) (roomy tested)
 
 plan-cleared-requires : tie.Need-plan-cleared-requires
 plan-cleared-requires c κs =
     let ready = c .before .before .before .before .before in
     let tested = ready .before .before .before .before .before .before .before .before .before .before in
-    is-cleared (lent-of (tested .before .before .before .before .before .before .before .before)) (cleared-lists ready) (roomy tested) (ready .before .before .before .before .before .before .before .before .zero-first .ensures) (ready .before .before .before .before .zero-first2 .ensures) (ready .zero-ticks .ensures)
+    is-cleared (lent-of (tested .before .before .before .before .before .before .before .before .before)) (cleared-lists ready) (roomy tested) (ready .before .before .before .before .before .before .before .before .zero-first .ensures) (ready .before .before .before .before .zero-first2 .ensures) (ready .zero-ticks .ensures)
 
 same-length : tie.Need-same-length
 same-length c = search needs
@@ -76,9 +79,9 @@ returns-2 c =
     let planned = c .before .before .before .before .before .before .plan-cleared in
     let ready = c .before .before .before .before .before .before .before .before .before .before .before .before in
     let tested = ready .before .before .before .before .before .before .before .before .before .before in
-    let s = tested .before .before .before .before .before .before .before .before in
+    let s = tested .before .before .before .before .before .before .before .before .before in
     over-cleared (lent-of s) (cleared-lists ready) (roomy tested) (ready .before .before .before .before .before .before .before .before .zero-first .ensures) (ready .before .before .before .before .zero-first2 .ensures) (ready .zero-ticks .ensures) (job-of s)
-    (lent (planned .last .1 .1 .1 .1 .0) (planned .last .1 .1 .1 .1 .1 .0) (planned .last .1 .1 .1 .1 .1 .1 .0)) (saidPlanned (planned .result)) (planned .ensures)
+    (lent (planned .last .1 .1 .1 .1 .1 .0) (planned .last .1 .1 .1 .1 .1 .1 .0) (planned .last .1 .1 .1 .1 .1 .1 .1 .0)) (saidPlanned (planned .result)) (planned .ensures)
 
 pub plan-moves-spec : {M : Type 1} → statement M
 plan-moves-spec =

@@ -1,6 +1,6 @@
--- `planner::plan_sound` meets its contract: a job without the faults 2 to 7 is served, so its table is filled
--- with true distances; then the lowest carrier without a walk is the first fault, or the start ticks by the
--- table are the plan. There is no loop. Assumes nothing.
+-- `planner::plan_sound` meets its contract: a job without a fault of its listed checks is served, so its
+-- table is filled with true distances; then the lowest carrier without a walk is the first fault, or the
+-- start ticks by the table are the plan. There is no loop. Assumes nothing.
 use borrow.Author.Needs.{needs}
 use Rattle.hall.specs.Floor.{networkOf}
 use Rattle.hall.specs.Job.{Numbers, jobOf}
@@ -12,18 +12,21 @@ use Rattle.planner.proofs.plan_sound.Tie as tie
 
 -- the job, and the lists as they came
 abbrev job-of : tie.Start → Numbers
-job-of s = jobOf (networkOf (s .args .nodes) (s .args .lanes .now)) (s .args .moves .now) (s .args .order .now)
+job-of s =
+    jobOf (networkOf (s .args .nodes) (s .args .lanes .now) (s .args .closed .now))
+    (s .args .moves .now)
+    (s .args .order .now)
 
 abbrev lent-of : tie.Start → Lent
 lent-of s = lent (s .args .table .now) (s .args .distances .now) (s .args .ticks .now)
 
 -- the table holds the true distances
 filled : (c : tie.After-fill) →
-    let a = c .before .before .before .before .before .before .before .before .args in
-    TableFilled (networkOf (a .nodes) (a .lanes .now)) (a .moves .now) (a .table .now) (c .fill .last .1 .1 .1 .0)
+    let a = c .before .before .before .before .before .before .before .before .before .args in
+    TableFilled (networkOf (a .nodes) (a .lanes .now) (a .closed .now)) (a .moves .now) (a .table .now) (c .fill .last .1 .1 .1 .1 .0)
 filled c =
-    let s = c .before .before .before .before .before .before .before .before in
-    is-filled (job-of s) (s .pre .1) (lent-of s) (s .pre .0) (c .fill .last .1 .1 .1 .0) (c .fill .result)
+    let s = c .before .before .before .before .before .before .before .before .before in
+    is-filled (job-of s) (s .pre .1) (lent-of s) (s .pre .0) (c .fill .last .1 .1 .1 .1 .0) (c .fill .result)
     (c .fill .ensures)
 
 fill-requires : tie.Need-fill-requires
@@ -51,8 +54,8 @@ time-all-requires : tie.Need-time-all-requires
 time-all-requires c κs =
     let looked = c .before .before .before .before .before in
     let made = looked .before .before .before .before in
-    let s = made .before .before .before .before .before .before .before .before in (
-      is-served (job-of s) (s .pre .1) (lent-of s) (s .pre .0) (made .fill .last .1 .1 .1 .0) (filled made),
+    let s = made .before .before .before .before .before .before .before .before .before in (
+      is-served (job-of s) (s .pre .1) (lent-of s) (s .pre .0) (made .fill .last .1 .1 .1 .1 .0) (filled made),
       s .pre .0 .enough-distances,
     )
 
@@ -65,9 +68,9 @@ returns c =
     let told = zeroed .before .before .before in
     let looked = told .before .before in
     let made = looked .before .before .before .before in
-    let s = made .before .before .before .before .before .before .before .before in
+    let s = made .before .before .before .before .before .before .before .before .before in
     rw (c .refused .ensures)
-    (unreached-refuses (job-of s) (s .pre .1) (lent-of s) (s .pre .0) (made .fill .last .1 .1 .1 .0) (filled made)
+    (unreached-refuses (job-of s) (s .pre .1) (lent-of s) (s .pre .0) (made .fill .last .1 .1 .1 .1 .0) (filled made)
     (told .carrier .given .1) (looked .first-unreached .ensures) (zeroed .zero-first .ensures))
 
 same-length-2 : tie.Need-same-length-2
@@ -85,8 +88,8 @@ returns-2 c =
     let told = timed .before .before .before .before in
     let looked = told .before .before in
     let made = looked .before .before .before .before in
-    let s = made .before .before .before .before .before .before .before .before in
-    plan-accepted (job-of s) (s .pre .1) (lent-of s) (s .pre .0) (made .fill .last .1 .1 .1 .0) (filled made)
+    let s = made .before .before .before .before .before .before .before .before .before in
+    plan-accepted (job-of s) (s .pre .1) (lent-of s) (s .pre .0) (made .fill .last .1 .1 .1 .1 .0) (filled made)
     (told .enum-told .given .1) (looked .first-unreached .ensures) (timed .time-all .ensures)
 
 pub plan-sound-spec : {M : Type 1} → statement M

@@ -3,7 +3,7 @@
 -- nothing.
 use mathlib.Core.Path.{_∙_}
 use denote.Ref.{now}
-use Rattle.hall.specs.Limits.{carrierLimit, laneNumbers, moveNumbers}
+use Rattle.hall.specs.Limits.{nodeLimit, carrierLimit, laneNumbers, moveNumbers}
 use Rattle.hall.specs.Left.{zeroed}
 use Rattle.reader.specs.Reading.{AnyShort}
 use Rattle.reader.specs.Text.{Long, TextRead}
@@ -14,45 +14,47 @@ use Rattle.reader.proofs.read_numbers.Tie as tie
 
 -- no table is too short
 not-short : (c : tie.Else1)
-    → let a = c .before .before .before .before .before .before .args in
-    ¬ AnyShort (now (a .lanes)) (now (a .moves)) (now (a .order))
+    → let a = c .before .before .before .before .before .before .before .args in
+    ¬ AnyShort (now (a .lanes)) (now (a .closed)) (now (a .moves)) (now (a .order))
 not-short c = rw (c .if1 .left) at (c .before .too-short .ensures)
 
 enough : (c : tie.Else1)
-    → let a = c .before .before .before .before .before .before .args in
-    Long (now (a .lanes)) (now (a .moves)) (now (a .order))
+    → let a = c .before .before .before .before .before .before .before .args in
+    Long (now (a .lanes)) (now (a .closed)) (now (a .moves)) (now (a .order))
 enough c =
-    let a = c .before .before .before .before .before .before .args in
-    long-enough (now (a .lanes)) (now (a .moves)) (now (a .order)) (not-short c)
+    let a = c .before .before .before .before .before .before .before .args in
+    long-enough (now (a .lanes)) (now (a .closed)) (now (a .moves)) (now (a .order)) (not-short c)
 
 -- the text was read into zeroed tables
 into-zeros : (c : tie.After-read-text)
-    → let a = c .before .before .before .before .before .before .before .before .before .before .before .before .before .before .before .before .before .before .before .before .args in
+    → let a = c .before .before .before .before .before .before .before .before .before .before .before .before .before .before .before .before .before .before .before .before .before .before .before .before .before .args in
     let last = c .read-text .last in
     TextRead (now (a .text))
-    (zeroed laneNumbers (now (a .lanes))) (zeroed moveNumbers (now (a .moves))) (zeroed carrierLimit (now (a .order)))
-    (last .1 .0) (last .1 .1 .0) (last .1 .1 .1 .0) (c .read-text .result)
+    (zeroed laneNumbers (now (a .lanes))) (zeroed nodeLimit (now (a .closed))) (zeroed moveNumbers (now (a .moves)))
+    (zeroed carrierLimit (now (a .order))) (last .1 .0) (last .1 .1 .0) (last .1 .1 .1 .0) (last .1 .1 .1 .1 .0)
+    (c .read-text .result)
 into-zeros c =
-    let z = c .before .before .before .before .before .before .before .before .before .before .zero-tables .ensures in
-    rw (z .0, z .1, z .2) at (c .read-text .ensures)
+    let z = c .before .before .before .before .before .before .before .before .before .before .before .before .before .zero-tables .ensures in
+    rw (z .0, z .1, z .2, z .3) at (c .read-text .ensures)
 
 too-short-requires : tie.Need-too-short-requires
 too-short-requires c κs = search needs
 
 returns : tie.Need-returns
-returns c = read-short _ _ _ _ (rw (c .if1 .taken) at (c .before .too-short .ensures))
+returns c = read-short _ _ _ _ _ (rw (c .if1 .taken) at (c .before .too-short .ensures))
 
 zero-tables-requires : tie.Need-zero-tables-requires
 zero-tables-requires c κs = search needs
 
 read-text-requires : tie.Need-read-text-requires
 read-text-requires c κs =
-    let z = c .before .before .before .before .before .before .before .before .before .zero-tables .kept in
-    let long = enough (c .before .before .before .before .before .before .before .before .before .before .before .before .before) in
+    let z = c .before .before .before .before .before .before .before .before .before .before .before .before .zero-tables .kept in
+    let long = enough (c .before .before .before .before .before .before .before .before .before .before .before .before .before .before .before .before .before) in
     record {
       lanes-long = rw (z .0) (long .lanes-long);
-      moves-long = rw (z .1 .0) (long .moves-long);
-      order-long = rw (z .1 .1 .0) (long .order-long);
+      closed-long = rw (z .1 .0) (long .closed-long);
+      moves-long = rw (z .1 .1 .0) (long .moves-long);
+      order-long = rw (z .1 .1 .1 .0) (long .order-long);
     }
 
 enum-told : tie.Need-enum-told
@@ -73,19 +75,20 @@ same-length-2 c = search needs
 same-length-3 : tie.Need-same-length-3
 same-length-3 c = search needs
 
-returns-2 : tie.Need-returns-2
-returns-2 c =
-    let reading = c .before .before .before .before .before .before .before .before .before .before .before .before .before .before .before .before .before .before in
-    let told = c .before .before .before .before .before .before .before .before .before .before .enum-told .given .1 in
-    let same = reading .read-text .kept in
-    let zeros = c .before .before .before .before .before .before .before .before .before .before .before .before .before .before .before .before .before .before .before .before .before .before .before .before .before .before .before .before .zero-tables .kept in
-    let again = c .before .before .before .before .before .before .zero-tables2 .ensures in
-    rw (told, again .0, again .1, again .2)
-    (read-refused _ _ _ _ (not-short (c .before .before .before .before .before .before .before .before .before .before .before .before .before .before .before .before .before .before .before .before .before .before .before .before .before .before .before .before .before .before .before .before)) _ _ _ _ (rw told at (into-zeros reading))
-    (same .1 .0 ∙ zeros .0) (same .1 .1 .0 ∙ zeros .1 .0) (same .1 .1 .1 .0 ∙ zeros .1 .1 .0))
-
 same-length-4 : tie.Need-same-length-4
 same-length-4 c = search needs
+
+returns-2 : tie.Need-returns-2
+returns-2 c =
+    let reading = c .before .before .before .before .before .before .before .before .before .before .before .before .before .before .before .before .before .before .before .before .before .before .before in
+    let told = c .before .before .before .before .before .before .before .before .before .before .before .before .before .enum-told .given .1 in
+    let same = reading .read-text .kept in
+    let zeros = c .before .before .before .before .before .before .before .before .before .before .before .before .before .before .before .before .before .before .before .before .before .before .before .before .before .before .before .before .before .before .before .before .before .before .before .before .zero-tables .kept in
+    let again = c .before .before .before .before .before .before .before .before .zero-tables2 .ensures in
+    rw (told, again .0, again .1, again .2, again .3)
+    (read-refused _ _ _ _ _ (not-short (c .before .before .before .before .before .before .before .before .before .before .before .before .before .before .before .before .before .before .before .before .before .before .before .before .before .before .before .before .before .before .before .before .before .before .before .before .before .before .before .before .before)) _ _ _ _ _ (rw told at (into-zeros reading))
+    (same .1 .0 ∙ zeros .0) (same .1 .1 .0 ∙ zeros .1 .0) (same .1 .1 .1 .0 ∙ zeros .1 .1 .0)
+    (same .1 .1 .1 .1 .0 ∙ zeros .1 .1 .1 .0))
 
 same-length-5 : tie.Need-same-length-5
 same-length-5 c = search needs
@@ -93,10 +96,17 @@ same-length-5 c = search needs
 same-length-6 : tie.Need-same-length-6
 same-length-6 c = search needs
 
+same-length-7 : tie.Need-same-length-7
+same-length-7 c = search needs
+
+same-length-8 : tie.Need-same-length-8
+same-length-8 c = search needs
+
 returns-3 : tie.Need-returns-3
 returns-3 c =
     let told = c .enum-told2 .given .1 in
-    rw told (read-accepted _ _ _ _ (not-short (c .before .before .before .before .before .before .before .before .before .before .before .before .before .before .before .before .before .before .before .before .before .before)) _ _ _ _ (rw told at (into-zeros (c .before .before .before .before .before .before .before .before))))
+    rw told
+    (read-accepted _ _ _ _ _ (not-short (c .before .before .before .before .before .before .before .before .before .before .before .before .before .before .before .before .before .before .before .before .before .before .before .before .before .before .before .before)) _ _ _ _ _ (rw told at (into-zeros (c .before .before .before .before .before .before .before .before .before .before))))
 
 pub read-numbers-spec : {M : Type 1} → statement M
 read-numbers-spec =
@@ -112,8 +122,10 @@ read-numbers-spec =
     same-length
     same-length-2
     same-length-3
-    returns-2
     same-length-4
+    returns-2
     same-length-5
     same-length-6
+    same-length-7
+    same-length-8
     returns-3)

@@ -3,13 +3,21 @@
 -- job's, so the number of its line is no sum that wraps. Assumes nothing.
 use borrow.Author.Needs.{needs}
 use native.Mathlib.Omega.{arith}
-use Rattle.report.proofs.JobAnswers.{refused-carrier, refusal-answers, cost-answers}
+use Rattle.report.proofs.JobAnswers.{closed-lines-few, refused-carrier, refusal-answers, cost-answers}
 use Rattle.report.proofs.JobAnswers.{planned-accepted, planned-refused}
 use Rattle.report.proofs.answer_job.Statement.{statement}
 use Rattle.report.proofs.answer_job.Tie as tie
 
 add-first : tie.Need-add-first
 add-first c = search needs
+
+closed-lines-requires : tie.Need-closed-lines-requires
+closed-lines-requires c κs = search needs
+
+add-first-2 : tie.Need-add-first-2
+add-first-2 c =
+    let start = c .before .before .before .before .before .before in
+    omega (arith, closed-lines-few (start .args .closed .now), c .closed-lines .ensures, start .good)
 
 slice-aggregate-plan-moves : tie.Need-slice-aggregate-plan-moves
 slice-aggregate-plan-moves c = search needs
@@ -42,11 +50,12 @@ add-line : tie.Need-add-line
 add-line c =
     let matched = c .before in
     let called = matched .before .before .before .before .before in
-    let start = called .before .before .before .before .before .before .before .before in
+    let start = called .before .before .before .before .before .before .before .before .before .before in
     let refuses = planned-refused (matched .planned2 .given .1) (called .plan-moves .ensures) in
     let few = refused-carrier (start .pre)
     (record { table = search needs; distances = search needs; ticks = search needs }) refuses in
-    omega (arith, few, start .good)
+    let lines = closed-lines-few (start .args .closed .now) in
+    omega (arith, few, lines, called .before .before .before .before .closed-lines .ensures, start .good)
 
 number-requires : tie.Need-number-requires
 number-requires c κs = search needs
@@ -62,7 +71,7 @@ returns c =
     let printed = c .before .before in
     let matched = printed .before .before .before .before .before in
     let called = matched .before .before .before .before .before in
-    let start = called .before .before .before .before .before .before .before .before in
+    let start = called .before .before .before .before .before .before .before .before .before .before in
     let accepted = planned-accepted (matched .planned .given .1) (called .plan-moves .ensures) in
     cost-answers (start .pre)
     (record { table = search needs; distances = search needs; ticks = search needs })
@@ -77,17 +86,20 @@ returns-2 c =
     let numbered = printed .before .before in
     let matched = numbered .before .before in
     let called = matched .before .before .before .before .before in
-    let start = called .before .before .before .before .before .before .before .before in
+    let start = called .before .before .before .before .before .before .before .before .before .before in
     let refuses = planned-refused (matched .planned2 .given .1) (called .plan-moves .ensures) in
     refusal-answers (start .pre)
     (record { table = search needs; distances = search needs; ticks = search needs })
-    refuses (rw (numbered .number .ensures) at (printed .print-refused .ensures))
+    refuses
+    (rw (numbered .number .ensures, called .before .before .before .before .closed-lines .ensures) at (printed .print-refused .ensures))
 
 pub answer-job-spec : {M : Type 1} → statement M
 answer-job-spec =
     tie.close
     (tie.spec
     add-first
+    closed-lines-requires
+    add-first-2
     slice-aggregate-plan-moves
     slice-aggregate-plan-moves-2
     slice-aggregate-plan-moves-3

@@ -8,7 +8,7 @@ use Rattle.hall.specs.Limits.{tableLength}
 use Rattle.hall.specs.Floor.{networkOf}
 use Rattle.hall.proofs.Answers.{affirmed-not, denied-not}
 use Rattle.hall.proofs.Left.{zeroed-below}
-use Rattle.tables.proofs.Blocks.{end-below, served-by, over-zeroed}
+use Rattle.tables.proofs.Blocks.{served-by, over-zeroed}
 use Rattle.tables.proofs.fill.Statement.{statement}
 use Rattle.tables.proofs.fill.Tie as tie
 
@@ -27,9 +27,7 @@ all-nodes-requires c κs = search needs
 returns-4 : tie.Need-returns-4
 returns-4 c = record {
   unserved = λ s.
-      let first = c .before .before .before .before .before .before .before .before in
-      denied-not (c .before .all-nodes .result) (c .if4 .taken) (c .before .all-nodes .ensures)
-      (end-below (networkOf (first .args .nodes) (first .args .lanes .now)) (s .on-floor));
+      denied-not (c .before .all-nodes .result) (c .if4 .taken) (c .before .all-nodes .ensures) (s .on-floor);
   kept = refl;
 }
 
@@ -40,11 +38,11 @@ fill-all-requires : tie.Need-fill-all-requires
 fill-all-requires c κs =
     let zero = c .before .before .before in
     let nodes-test = zero .before .before .before in
-    let first = nodes-test .before .before .before .before .before .before .before in
+    let first = nodes-test .before .before .before .before .before .before .before .before in
     let table = first .args .table .now in
     let below = affirmed-not (nodes-test .all-nodes .result) (zero .before .before .if4 .left) (nodes-test .all-nodes .ensures) in
     let kept : length (zero .zero-first .last .0) ≡ length table = zero .zero-first .kept .0 in (
-      served-by (networkOf (first .args .nodes) (first .args .lanes .now)) (first .args .moves .now) (omega arith) (omega arith) (omega (arith, kept)) below,
+      served-by (networkOf (first .args .nodes) (first .args .lanes .now) (first .args .closed .now)) (first .args .moves .now) (omega arith) (omega arith) (omega (arith, kept)) below,
       λ x h. rw (zero .zero-first .ensures) (zeroed-below tableLength table x h),
     )
 
@@ -55,7 +53,7 @@ returns-5 : tie.Need-returns-5
 returns-5 c =
     let all = c .before .before in
     let zero = all .before .before .before .before in
-    let first = zero .before .before .before .before .before .before .before .before .before .before in
+    let first = zero .before .before .before .before .before .before .before .before .before .before .before in
     over-zeroed (first .args .table .now) (zero .zero-first .ensures) (all .fill-all .ensures)
 
 pub fill-spec : {M : Type 1} → statement M

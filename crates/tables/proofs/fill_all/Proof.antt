@@ -13,11 +13,11 @@ use Rattle.tables.proofs.fill_all.Statement.{statement}
 use Rattle.tables.proofs.fill_all.Tie as tie
 
 abbrev Inv-loop : tie.InvT-loop
-Inv-loop nodes lanes moves table₀ count i₀ table i =
-    (count ≡ moveCount moves) × (i ≤ count) × FilledTo (networkOf nodes lanes) moves table₀ i table
+Inv-loop nodes lanes closed moves table₀ count i₀ table i =
+    (count ≡ moveCount moves) × (i ≤ count) × FilledTo (networkOf nodes lanes closed) moves table₀ i table
 
 abbrev μ-loop : tie.MeasureT-loop
-μ-loop nodes lanes moves table₀ count i₀ table i = count - i
+μ-loop nodes lanes closed moves table₀ count i₀ table i = count - i
 
 loop-holds : tie.Need-loop-holds Inv-loop μ-loop
 loop-holds c = (refl, omega arith, filled-none _ _ _)
@@ -25,7 +25,7 @@ loop-holds c = (refl, omega arith, filled-none _ _ _)
 fill-carrier-requires : tie.Need-fill-carrier-requires Inv-loop μ-loop
 fill-carrier-requires c κs =
     let loop = c .before .before in
-    let first = loop .before .before .before .before in
+    let first = loop .before .before .before .before .before in
     let served = first .pre .0 in
     let room : tableLength ≤ length (loop .loop .table) = omega (arith, served .whole-table, loop .loop .inv .2 .size) in
     (record { few-nodes = served .few-nodes; few-carriers = served .few-carriers; whole-table = room; on-floor = served .on-floor }, omega arith)
@@ -39,7 +39,7 @@ loop-less c = search needs
 loop-again : tie.Need-loop-again Inv-loop μ-loop
 loop-again c =
     let loop = c .before .before .before .before .before in
-    let first = loop .before .before .before .before in
+    let first = loop .before .before .before .before .before in
     (refl, omega arith, filled-more _ _ _ (first .pre .0 .few-carriers) (loop .loop .i) (omega arith) (loop .loop .inv .2) (c .before .before .fill-carrier .ensures))
 
 same-length : tie.Need-same-length Inv-loop μ-loop
@@ -48,7 +48,7 @@ same-length c = c .before .loop .inv .2 .size
 returns : tie.Need-returns Inv-loop μ-loop
 returns c =
     let loop = c .before in
-    let first = loop .before .before .before .before in
+    let first = loop .before .before .before .before .before in
     let all : loop .loop .i ≡ moveCount (first .args .moves .now) = omega arith in
     filled-all _ _ _ (first .pre .0) (first .pre .1) (rw all at (loop .loop .inv .2))
 

@@ -6,18 +6,18 @@ use Prim.Native.Nat.{_+_, _-_, _≤_, _<_}
 use native.Mathlib.Omega.{arith}
 use borrow.Author.Fill.{fill-none, fill-more}
 use lib.ListN.{length, replicate, drop, length-set}
-use Rattle.hall.specs.Limits.{noWalkMark}
+use Rattle.walk.specs.Sweep.{unreachedMark}
 use Rattle.walk.proofs.blank.Statement.{statement}
 use Rattle.walk.proofs.blank.Tie as tie
 
 abbrev Inv-loop : tie.InvT-loop
-Inv-loop nodes row₀ i₀ row i = (i ≤ nodes) × (row ≡ replicate i noWalkMark ++ drop i row₀) × (length row ≡ length row₀)
+Inv-loop nodes row₀ i₀ row i = (i ≤ nodes) × (row ≡ replicate i unreachedMark ++ drop i row₀) × (length row ≡ length row₀)
 
 abbrev μ-loop : tie.MeasureT-loop
 μ-loop nodes row₀ i₀ row i = nodes - i
 
 loop-holds : tie.Need-loop-holds Inv-loop μ-loop
-loop-holds c = (omega arith, fill-none (c .args .row .now) noWalkMark, refl)
+loop-holds c = (omega arith, fill-none (c .args .row .now) unreachedMark, refl)
 
 mul-row : tie.Need-mul-row Inv-loop μ-loop
 mul-row c = omega arith
@@ -36,7 +36,7 @@ loop-again c =
     let turn = c .before .loop in
     let old = c .before .before .args .row .now in
     let inside : turn .i < length old = omega arith in
-    (omega arith, rw (turn .inv .1) (fill-more (turn .i) noWalkMark old inside), length-set (turn .row) (turn .i) noWalkMark ∙ turn .inv .2)
+    (omega arith, rw (turn .inv .1) (fill-more (turn .i) unreachedMark old inside), length-set (turn .row) (turn .i) unreachedMark ∙ turn .inv .2)
 
 same-length : tie.Need-same-length Inv-loop μ-loop
 same-length c = c .before .loop .inv .2

@@ -1,5 +1,6 @@
--- `walk::look` meets its contract: both ends are nodes, since the list is clean or by the tests, and labels
--- that are less than two apart are near. Assumes nothing.
+-- `walk::look` meets its contract: both ends are nodes, since the list is clean or by the tests, labels that
+-- are less than two apart are near, and a label that is not the mark of a closed node is below it. Assumes
+-- nothing.
 use mathlib.Core.Path.{refl}
 use mathlib.Core.Logic.{inl, inr}
 use Prim.Native.Nat.{_+_, _<_}
@@ -7,15 +8,16 @@ use native.Mathlib.Omega.{arith}
 use borrow.Author.Needs.{needs}
 use borrow.Author.Tests.{not-false}
 use lib.ListN.{getD}
+use Rattle.hall.specs.Limits.{noWalkMark}
 use Rattle.walk.specs.Sweep.{kept, second-fell, first-fell}
 use Rattle.walk.proofs.look.Statement.{statement}
 use Rattle.walk.proofs.look.Tie as tie
 
 returns : tie.Need-returns
-returns c = kept (λ h i. absurd (let z : ⊥ = omega (arith, c .if2 .taken) in z)) refl
+returns c = kept (λ h i x y. absurd (let z : ⊥ = omega (arith, c .if2 .taken) in z)) refl
 
 returns-2 : tie.Need-returns-2
-returns-2 c = kept (λ h i. absurd (let z : ⊥ = omega (arith, c .if3 .taken) in z)) refl
+returns-2 c = kept (λ h i x y. absurd (let z : ⊥ = omega (arith, c .if3 .taken) in z)) refl
 
 -- both ends are nodes, behind the tests
 both : (c : tie.Joined1) → (c .before .args .a < c .before .args .nodes) × (c .before .args .b < c .before .args .nodes)
@@ -43,8 +45,8 @@ sub-apart c = search needs
 returns-3 : tie.Need-returns-3
 returns-3 c =
     elim (c .before .if4 .came) [
-      | inl x ↦ kept (λ h i. record { second = omega (arith, x .0 .taken, x .1, c .if5 .taken); first = omega (arith, x .0 .taken) }) refl
-      | inr x ↦ kept (λ h i. record { second = omega (arith, x .0 .left); first = omega (arith, x .0 .left, x .1, c .if5 .taken) }) refl
+      | inl x ↦ kept (λ h i below-a below-b. record { second = omega (arith, x .0 .taken, x .1, c .if5 .taken); first = omega (arith, x .0 .taken) }) refl
+      | inr x ↦ kept (λ h i below-a below-b. record { second = omega (arith, x .0 .left); first = omega (arith, x .0 .left, x .1, c .if5 .taken) }) refl
     ]
 
 -- where the labels are two or more apart and x is the lower, and where it is not
@@ -66,39 +68,59 @@ x-higher c =
       | inr x ↦ omega (arith, x .1, c .before .if5 .left, c .if6 .left)
     ]
 
+-- the higher label is the mark of a closed node, and stays
+returns-4 : tie.Need-returns-4
+returns-4 c = kept (λ h i x y. absurd (let z : ⊥ = omega (arith, c .if7 .taken) in z)) refl
+
+returns-5 : tie.Need-returns-5
+returns-5 c = kept (λ h i x y. absurd (let z : ⊥ = omega (arith, c .if8 .taken) in z)) refl
+
+-- or it is not, and is below that mark
+y-below : (c : tie.Else7) → let start = c .before .before .before .before .before .before .before .args in getD (start .row .now) (start .b) 0 < noWalkMark
+y-below c =
+    let known = c .before .before .before .before .slice-known2 .given (c .before .before .before .before .before .before .before .args .b) in
+    omega (arith, c .if7 .left, known)
+
+x-below : (c : tie.Else8) → let start = c .before .before .before .before .before .before .before .args in getD (start .row .now) (start .a) 0 < noWalkMark
+x-below c =
+    let known = c .before .before .before .before .slice-known2 .given (c .before .before .before .before .before .before .before .args .a) in
+    omega (arith, c .if8 .left, known)
+
 add-row : tie.Need-add-row
-add-row c =
-    let known = c .before .before .before .slice-known2 .given (c .before .before .before .before .before .before .args .b) in
-    omega (arith, y-higher c, known)
+add-row c = omega (arith, y-higher (c .before), y-below c)
 
 mul-row : tie.Need-mul-row
 mul-row c = search needs
 
 slice-write-row : tie.Need-slice-write-row
-slice-write-row c = omega (arith, both (c .before .before .before .before .before), c .before .before .before .before .before .before .pre .0)
+slice-write-row c =
+    omega (arith, both (c .before .before .before .before .before .before), c .before .before .before .before .before .before .before .pre .0)
 
 add-row-2 : tie.Need-add-row-2
-add-row-2 c =
-    let known = c .before .before .before .slice-known2 .given (c .before .before .before .before .before .before .args .a) in
-    omega (arith, x-higher c, known)
+add-row-2 c = omega (arith, x-higher (c .before), x-below c)
 
 mul-row-2 : tie.Need-mul-row-2
 mul-row-2 c = search needs
 
 slice-write-row-2 : tie.Need-slice-write-row-2
-slice-write-row-2 c = omega (arith, both (c .before .before .before .before .before), c .before .before .before .before .before .before .pre .0)
+slice-write-row-2 c =
+    omega (arith, both (c .before .before .before .before .before .before), c .before .before .before .before .before .before .before .pre .0)
 
 same-length : tie.Need-same-length
 same-length c = search needs
 
-returns-4 : tie.Need-returns-4
-returns-4 c = let nodes = both (c .before .before .before .before .before) in second-fell (nodes .0) (nodes .1) (y-higher c) refl
+returns-6 : tie.Need-returns-6
+returns-6 c =
+    let nodes = both (c .before .before .before .before .before .before) in
+    second-fell (nodes .0) (nodes .1) (y-higher (c .before)) (y-below c) refl
 
 same-length-2 : tie.Need-same-length-2
 same-length-2 c = search needs
 
-returns-5 : tie.Need-returns-5
-returns-5 c = let nodes = both (c .before .before .before .before .before) in first-fell (nodes .0) (nodes .1) (x-higher c) refl
+returns-7 : tie.Need-returns-7
+returns-7 c =
+    let nodes = both (c .before .before .before .before .before .before) in
+    first-fell (nodes .0) (nodes .1) (x-higher (c .before)) (x-below c) refl
 
 pub look-spec : {M : Type 1} → statement M
 look-spec =
@@ -112,13 +134,15 @@ look-spec =
     slice-read-y
     sub-apart
     returns-3
+    returns-4
     add-row
     mul-row
     slice-write-row
+    returns-5
     add-row-2
     mul-row-2
     slice-write-row-2
     same-length
-    returns-4
+    returns-6
     same-length-2
-    returns-5)
+    returns-7)

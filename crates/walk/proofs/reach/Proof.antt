@@ -1,24 +1,25 @@
 -- `walk::reach` meets its contract. The invariant is `Walking`. The measure is how many sweeps are left of as
 -- many as there are nodes; it falls because a walk that is not done had fewer. Assumes nothing.
 use mathlib.Core.Path.{_∙_}
-use Prim.Native.Nat.{_-_}
+use mathlib.Core.Logic.{inl, inr}
+use Prim.Native.Nat.{_-_, _<_}
 use native.Mathlib.Omega.{arith}
 use borrow.Author.Needs.{needs}
-use lib.ListN.{set}
-use Rattle.hall.specs.Floor.{networkOf}
+use lib.ListN.{length}
+use Rattle.hall.specs.Floor.{Network, networkOf}
 use Rattle.walk.specs.Sweep.{Clean}
-use Rattle.walk.proofs.WalkBegun.{Begun, begun}
+use Rattle.walk.proofs.WalkBegun.{Begun, shut-length, begun-open, begun-closed}
 use Rattle.walk.proofs.WalkGreatest.{clean-greatest}
 use Rattle.walk.proofs.WalkReach.{Walking, walking-first, walking-swept, walking-done}
 use Rattle.walk.proofs.reach.Statement.{statement}
 use Rattle.walk.proofs.reach.Tie as tie
 
 abbrev Inv-loop : tie.InvT-loop
-Inv-loop nodes lanes source row₀ place top clean sweeps₀ back₀ todo₀ row sweeps back todo =
-    Walking (networkOf nodes lanes) source row₀ row sweeps back todo × Clean (networkOf nodes lanes) clean
+Inv-loop nodes lanes closed source row₀ place top clean sweeps₀ back₀ todo₀ row sweeps back todo =
+    Walking (networkOf nodes lanes closed) source row₀ row sweeps back todo × Clean nodes lanes clean
 
 abbrev μ-loop : tie.MeasureT-loop
-μ-loop nodes lanes source row₀ place top clean sweeps₀ back₀ todo₀ row sweeps back todo = nodes - sweeps
+μ-loop nodes lanes closed source row₀ place top clean sweeps₀ back₀ todo₀ row sweeps back todo = nodes - sweeps
 
 greatest-requires : tie.Need-greatest-requires Inv-loop μ-loop
 greatest-requires c κs = search needs
@@ -27,32 +28,53 @@ cast-top : tie.Need-cast-top Inv-loop μ-loop
 cast-top c = search needs
 
 blank-requires : tie.Need-blank-requires Inv-loop μ-loop
-blank-requires c κs = c .before .before .before .before .pre .wide
+blank-requires c κs = c .before .before .before .before .before .pre .wide
+
+shut-requires : tie.Need-shut-requires Inv-loop μ-loop
+shut-requires c κs = omega (arith, c .before .before .before .blank .kept .1 .0, c .before .before .before .before .before .before .before .before .before .pre .wide)
+
+-- the entry, seen from the test of the source's place, and the network
+abbrev entry : tie.After-slice-known4 Inv-loop μ-loop → tie.Start Inv-loop μ-loop
+entry c = c .before .before .before .before .before .before .before .before .before .before .before .before .before
+
+abbrev network : tie.After-slice-known4 Inv-loop μ-loop → Network
+network c = networkOf (entry c .args .nodes) (entry c .args .lanes .now) (entry c .args .closed .now)
+
+-- the source has a place in the row
+place-inside : (c : tie.After-slice-known4 Inv-loop μ-loop) → entry c .args .source < length (c .before .before .before .shut .last .1 .1 .0)
+place-inside c =
+    let blank = c .before .before .before .before .before .before .before .blank in
+    let size = shut-length (network c) (entry c .args .row .now) (entry c .pre .wide) (blank .ensures) (c .before .before .before .shut .ensures) in
+    omega (arith, size, entry c .pre .wide, entry c .pre .on-floor)
+
+mul-if1 : tie.Need-mul-if1 Inv-loop μ-loop
+mul-if1 c = omega arith
+
+slice-read-if1 : tie.Need-slice-read-if1 Inv-loop μ-loop
+slice-read-if1 c = place-inside c
 
 mul-row : tie.Need-mul-row Inv-loop μ-loop
 mul-row c = omega arith
 
 slice-write-row : tie.Need-slice-write-row Inv-loop μ-loop
-slice-write-row c =
-    let start = c .before .before .before .before .before .before .before in
-    omega (arith, c .before .before .blank .kept .1 .0, start .pre .wide, start .pre .on-floor)
-
--- the entry, seen from the loop's beginning
-abbrev entry : tie.After-slice-known2 Inv-loop μ-loop → tie.Start Inv-loop μ-loop
-entry c = c .before .before .before .before .before .before .before
+slice-write-row c = place-inside (c .before)
 
 -- the row before the first sweep
-row-begun : (c : tie.After-slice-known2 Inv-loop μ-loop)
-    → Begun (entry c .args .nodes) (entry c .args .source) (entry c .args .row .now) (set (c .before .before .blank .last .1 .0) (entry c .args .source) 0)
+row-begun : (c : tie.Joined1 Inv-loop μ-loop) → Begun (network (c .before)) (entry (c .before) .args .source) (entry (c .before) .args .row .now) (c .if1 .row)
 row-begun c =
-    let start = entry c in
-    begun (start .args .nodes) (start .args .row .now) (start .pre .wide) (start .args .source) (start .pre .on-floor) (c .before .before .blank .ensures)
+    let start = entry (c .before) in
+    let blank = c .before .before .before .before .before .before .before .before .blank in
+    let shut = c .before .before .before .before .shut in
+    elim (c .if1 .came) [
+      | inl x ↦ rw (x .1) (begun-open (network (c .before)) (start .args .row .now) (start .pre .wide) (blank .ensures) (shut .ensures) (start .args .source) (start .pre .on-floor) (x .0 .taken))
+      | inr x ↦ rw (x .1) (begun-closed (network (c .before)) (start .args .row .now) (start .pre .wide) (blank .ensures) (shut .ensures) (start .args .source) (x .0 .left))
+    ]
 
 loop-holds : tie.Need-loop-holds Inv-loop μ-loop
 loop-holds c =
-    let start = entry c in (
+    let start = entry (c .before) in (
       walking-first (start .pre) (row-begun c),
-      clean-greatest (networkOf (start .args .nodes) (start .args .lanes .now)) (c .before .before .before .before .greatest .ensures),
+      clean-greatest (start .args .nodes) (start .args .lanes .now) (c .before .before .before .before .before .before .before .before .before .before .greatest .ensures),
     )
 
 sweep-requires : tie.Need-sweep-requires Inv-loop μ-loop
@@ -60,8 +82,8 @@ sweep-requires c κs = let loop = c .before .before .loop in (loop .inv .1, loop
 
 add-sweeps : tie.Need-add-sweeps Inv-loop μ-loop
 add-sweeps c =
-    let loop = c .before .before .before .before .before .loop in
-    omega (arith, loop .inv .0 .few, c .before .before .before .before .before .before .before .before .before .before .before .before .before .pre .few)
+    let turn = c .before .before .before .before .before in
+    omega (arith, turn .loop .inv .0 .few, entry (turn .before .before) .pre .few)
 
 loop-less : tie.Need-loop-less Inv-loop μ-loop
 loop-less c =
@@ -73,14 +95,18 @@ loop-again c =
     let loop = c .before .before .before .before .before .loop in
     (walking-swept (loop .inv .0) (c .before .before .sweep .ensures) (omega arith), loop .inv .1)
 
+settle-requires : tie.Need-settle-requires Inv-loop μ-loop
+settle-requires c κs = c .before .before .loop .inv .0 .sweepable .wide
+
 same-length : tie.Need-same-length Inv-loop μ-loop
-same-length c = c .before .loop .inv .0 .size ∙ row-begun (c .before .before) .size
+same-length c =
+    let turn = c .before .before .before .before .before in
+    c .before .before .settle .ensures .size ∙ turn .loop .inv .0 .size ∙ row-begun (turn .before) .size
 
 returns : tie.Need-returns Inv-loop μ-loop
 returns c =
-    let start = c .before .before .before .before .before .before .before .before .before in
-    let loop = c .before .loop in
-    (walking-done (start .pre) (loop .inv .0) (omega arith) (row-begun (c .before .before)), loop .inv .0 .few)
+    let turn = c .before .before .before .before .before in
+    (walking-done (entry (turn .before .before) .pre) (turn .loop .inv .0) (omega arith) (c .before .before .settle .ensures) (row-begun (turn .before)), turn .loop .inv .0 .few)
 
 pub reach-spec : {M : Type 1} → statement M
 reach-spec =
@@ -91,6 +117,9 @@ reach-spec =
     greatest-requires
     cast-top
     blank-requires
+    shut-requires
+    mul-if1
+    slice-read-if1
     mul-row
     slice-write-row
     loop-holds
@@ -98,5 +127,6 @@ reach-spec =
     add-sweeps
     loop-less
     loop-again
+    settle-requires
     same-length
     returns)

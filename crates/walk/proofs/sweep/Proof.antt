@@ -5,7 +5,7 @@ use mathlib.Core.Logic.{inl, inr}
 use mathlib.Core.Bool.{cond}
 use Prim.Native.Nat.{ℕ, _-_, _<_}
 use native.Mathlib.Omega.{arith}
-use Rattle.hall.specs.Floor.{networkOf, laneCount}
+use Rattle.hall.specs.Floor.{laneCount}
 use Rattle.walk.specs.Sweep.{lanesLeft}
 use Rattle.walk.proofs.WalkGreatest.{clean-lanes}
 use Rattle.walk.proofs.WalkSweep.{lanes-left-at, Sweeping, sweeping-first, sweeping-look, sweeping-done}
@@ -13,7 +13,7 @@ use Rattle.walk.proofs.sweep.Statement.{statement}
 use Rattle.walk.proofs.sweep.Tie as tie
 
 abbrev Inv-loop : tie.InvT-loop
-Inv-loop nodes clean lanes back todo row₀ count next₀ rest₀ row next rest = Sweeping (networkOf nodes lanes) back row₀ row rest next
+Inv-loop nodes clean lanes back todo row₀ count next₀ rest₀ row next rest = Sweeping nodes lanes back row₀ row rest next
 
 abbrev μ-loop : tie.MeasureT-loop
 μ-loop nodes clean lanes back todo row₀ count next₀ rest₀ row next rest = rest
@@ -65,11 +65,10 @@ look-requires : tie.Need-look-requires Inv-loop μ-loop
 look-requires c κs =
     let joined = c .before .before .before .before in
     let start = joined .before .before .before .before .before in
-    let N = networkOf (start .args .nodes) (start .args .lanes .now) in
     let inside = here joined .0 in (
       omega (arith, joined .before .before .loop .inv .size, start .pre .1 .wide),
-      λ e. clean-lanes N (start .pre .0) e (joined .if1 .k) inside .0,
-      λ e. clean-lanes N (start .pre .0) e (joined .if1 .k) inside .1,
+      λ e. clean-lanes (start .args .nodes) (start .args .lanes .now) (start .pre .0) e (joined .if1 .k) inside .0,
+      λ e. clean-lanes (start .args .nodes) (start .args .lanes .now) (start .pre .0) e (joined .if1 .k) inside .1,
     )
 
 -- the look leaves the sweep one lane further
@@ -78,7 +77,7 @@ looked : (c : tie.After-slice-known2 Inv-loop μ-loop) (next : ℕ)
     let start = joined .before .before .before .before .before .args in
     let loop = joined .before .before .loop in
     next ≡ cond (c .before .before .look .result) (laneCount (start .lanes .now) - loop .rest) (loop .next)
-    → Sweeping (networkOf (start .nodes) (start .lanes .now)) (start .back) (start .row .now) (c .before .before .look .last .1 .1 .1 .1 .0) (loop .rest - 1) next
+    → Sweeping (start .nodes) (start .lanes .now) (start .back) (start .row .now) (c .before .before .look .last .1 .1 .1 .1 .0) (loop .rest - 1) next
 looked c next e =
     let joined = c .before .before .before .before .before .before .before in
     let start = joined .before .before .before .before .before in

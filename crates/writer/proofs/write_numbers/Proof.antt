@@ -11,11 +11,14 @@ use Rattle.writer.proofs.write_numbers.Tie as tie
 
 -- the job that is written
 abbrev job : tie.Start → Numbers
-job c = jobOf (networkOf (c .args .nodes) (c .args .lanes .now)) (c .args .moves .now) (c .args .order .now)
+job c =
+    jobOf (networkOf (c .args .nodes) (c .args .lanes .now) (c .args .closed .now))
+    (c .args .moves .now)
+    (c .args .order .now)
 
 returns : tie.Need-returns
 returns c =
-    let begin = c .before .before .before .before .before in
+    let begin = c .before .before .before .before .before .before in
     short-refused (job begin) (begin .args .out .now) (omega (arith, c .if1 .taken))
 
 check-job-requires : tie.Need-check-job-requires
@@ -36,7 +39,7 @@ returns-2 c =
     let told = zeros .before .before .before in
     let asked = told .before .before in
     let room = asked .before in
-    let begin = room .before .before .before .before .before in
+    let begin = room .before .before .before .before .before .before in
     job-refused (job begin) (begin .args .out .now) (omega (arith, room .if1 .left)) _
     (asked .check-job .ensures) (told .checked .given .1) (zeros .zero-rest .ensures)
 
@@ -59,7 +62,7 @@ returns-3 c =
     let sound = text .before .before in
     let asked = sound .before .before in
     let room = asked .before in
-    let begin = room .before .before .before .before .before in
+    let begin = room .before .before .before .before .before .before in
     job-written (job begin) (begin .args .out .now) (omega (arith, room .if1 .left)) _
     (asked .check-job .ensures) (sound .enum-told .given .1) (text .put-job .ensures) (zeros .zero-rest2 .ensures)
 

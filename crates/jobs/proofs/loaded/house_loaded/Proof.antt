@@ -1,5 +1,5 @@
--- `jobs::loaded::house_loaded` meets its contract: what is answered of the part that is handed on is answered of the
--- loaded moves, which it is. There is no loop. Assumes nothing.
+-- `jobs::loaded::house_loaded` meets its contract: what is answered of the part that is handed on is
+-- answered of the loaded moves, which it is. There is no loop. Assumes nothing.
 use borrow.Author.Needs.{needs}
 use Rattle.jobs.proofs.loaded.house_loaded.Statement.{statement}
 use Rattle.jobs.proofs.loaded.house_loaded.Tie as tie

@@ -1,5 +1,5 @@
--- `jobs::loaded::plan_loaded` meets its contract: what is answered of the part that is handed on is answered of the
--- loaded moves, which it is. There is no loop. Assumes nothing.
+-- `jobs::loaded::plan_loaded` meets its contract: what is answered of the part that is handed on is
+-- answered of the loaded moves, which it is. There is no loop. Assumes nothing.
 use borrow.Author.Needs.{needs}
 use Rattle.jobs.proofs.loaded.plan_loaded.Statement.{statement}
 use Rattle.jobs.proofs.loaded.plan_loaded.Tie as tie

@@ -18,6 +18,9 @@ nodes-limit c = ap (λ (j : Job). j .nodes) (c .largest .ensures)
 lanes-limit : (c : tie.After-largest) → c .largest .result .lanes ≡ laneLimit
 lanes-limit c = ap (λ (j : Job). j .lanes) (c .largest .ensures)
 
+closed-limit : (c : tie.After-largest) → c .largest .result .closed ≡ nodeLimit
+closed-limit c = ap (λ (j : Job). j .closed) (c .largest .ensures)
+
 carriers-limit : (c : tie.After-largest) → c .largest .result .carriers ≡ carrierLimit
 carriers-limit c = ap (λ (j : Job). j .carriers) (c .largest .ensures)
 
@@ -70,30 +73,45 @@ returns-5 c =
     answered (c .refused5 .ensures)
     (asked-later (neither (omega arith) (omega (arith, nodes-limit largest)))
     (asked-later (neither (omega (arith, lanes-limit largest)) (four .if4 .left))
-    (asked-here (omega (arith, carriers-limit largest)))))
+    (asked-here (omega (arith, closed-limit largest)))))
 
 refused-requires-6 : tie.Need-refused-requires-6
 refused-requires-6 c κs = search needs
 
 returns-6 : tie.Need-returns-6
 returns-6 c =
-    let four = c .before .before .before .before in
+    let four = c .before .before .before .before .before in
     let largest = four .before .before .before .before .before .before in
     answered (c .refused6 .ensures)
     (asked-later (neither (omega arith) (omega (arith, nodes-limit largest)))
     (asked-later (neither (omega (arith, lanes-limit largest)) (four .if4 .left))
-    (asked-later (omega (arith, carriers-limit largest))
-    (asked-here (c .before .if6 .taken)))))
+    (asked-later (omega (arith, closed-limit largest))
+    (asked-here (omega (arith, carriers-limit largest))))))
+
+refused-requires-7 : tie.Need-refused-requires-7
+refused-requires-7 c κs = search needs
 
 returns-7 : tie.Need-returns-7
 returns-7 c =
-    let four = c .before .before .before in
+    let four = c .before .before .before .before .before .before in
+    let largest = four .before .before .before .before .before .before in
+    answered (c .refused7 .ensures)
+    (asked-later (neither (omega arith) (omega (arith, nodes-limit largest)))
+    (asked-later (neither (omega (arith, lanes-limit largest)) (four .if4 .left))
+    (asked-later (omega (arith, closed-limit largest))
+    (asked-later (omega (arith, carriers-limit largest))
+    (asked-here (c .before .if7 .taken))))))
+
+returns-8 : tie.Need-returns-8
+returns-8 c =
+    let four = c .before .before .before .before .before in
     let largest = four .before .before .before .before .before .before in
     asked-clear (neither (omega arith) (omega (arith, nodes-limit largest)))
     (asked-clear (neither (omega (arith, lanes-limit largest)) (four .if4 .left))
+    (asked-clear (omega (arith, closed-limit largest))
     (asked-clear (omega (arith, carriers-limit largest))
-    (asked-clear (λ differ. differ (c .if6 .left))
-    none-at-all)))
+    (asked-clear (λ differ. differ (c .if7 .left))
+    none-at-all))))
 
 pub check-counts-spec : {M : Type 1} → statement M
 check-counts-spec =
@@ -112,4 +130,6 @@ check-counts-spec =
     returns-5
     refused-requires-6
     returns-6
-    returns-7)
+    refused-requires-7
+    returns-7
+    returns-8)

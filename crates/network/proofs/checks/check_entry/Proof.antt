@@ -1,10 +1,7 @@
--- `network::checks::check_entry` meets its contract: 4 and 5 as `check_ends` answers of the two numbers that
--- are read. A move that is not there has no fault. Assumes nothing.
+-- `network::checks::check_entry` meets its contract: 4, 5 and 13 as `check_ends` answers of the two numbers
+-- that are read. A move that is not there has no fault. Assumes nothing.
 use native.Mathlib.Omega.{arith}
 use borrow.Author.Needs.{needs}
-use Rattle.hall.specs.Floor.{nodesOnly}
-use Rattle.hall.specs.Stages.{Question, only-at}
-use Rattle.hall.specs.Said.{Judged}
 use Rattle.hall.specs.Questions.{moveChecks}
 use Rattle.hall.proofs.Compose.{none-at-all, ⇒-judged}
 use Rattle.hall.proofs.Places.{asked-clear}
@@ -12,54 +9,38 @@ use Rattle.network.proofs.Questions.{each-inside}
 use Rattle.network.proofs.checks.check_entry.Statement.{statement}
 use Rattle.network.proofs.checks.check_entry.Tie as tie
 
-abbrev begun : tie.After-check-ends → tie.Start
-begun c = c .before .before .before .before .before .before .before
-
--- the checks of the move at its place
-abbrev own : tie.Start → Question
-own s = only-at (s .args .i) (moveChecks (nodesOnly (s .args .nodes)) (s .args .moves .now))
-
-own-judged : (c : tie.After-check-ends) → Judged (own (begun c)) (c .check-ends .result)
-own-judged c =
-    let start = c .before .before .before .wide .ensures in
-    let goal = c .before .wide2 .ensures in
-    rw (start, goal) at (c .check-ends .ensures)
-
 returns : tie.Need-returns
-returns c = asked-clear (λ x. omega (arith, x .0)) (asked-clear (λ x. omega (arith, x .0)) none-at-all)
+returns c =
+    asked-clear (λ x. omega (arith, x .0))
+    (asked-clear (λ x. omega (arith, x .0)) (asked-clear (λ x. omega (arith, x .0)) none-at-all))
 
 mul-at : tie.Need-mul-at
 mul-at c = search needs
 
-mul-wide : tie.Need-mul-wide
-mul-wide c = search needs
+mul-start : tie.Need-mul-start
+mul-start c = search needs
 
-shared-slice-read-wide : tie.Need-shared-slice-read-wide
-shared-slice-read-wide c = search needs
+shared-slice-read-start : tie.Need-shared-slice-read-start
+shared-slice-read-start c = search needs
 
-wide-requires : tie.Need-wide-requires
-wide-requires c κs = search needs
+add-goal : tie.Need-add-goal
+add-goal c = search needs
 
-add-wide : tie.Need-add-wide
-add-wide c = search needs
+mul-goal : tie.Need-mul-goal
+mul-goal c = search needs
 
-mul-wide-2 : tie.Need-mul-wide-2
-mul-wide-2 c = search needs
-
-shared-slice-read-wide-2 : tie.Need-shared-slice-read-wide-2
-shared-slice-read-wide-2 c = search needs
-
-wide-requires-2 : tie.Need-wide-requires-2
-wide-requires-2 c κs = search needs
+shared-slice-read-goal : tie.Need-shared-slice-read-goal
+shared-slice-read-goal c = search needs
 
 check-ends-requires : tie.Need-check-ends-requires
 check-ends-requires c κs = search needs
 
 returns-2 : tie.Need-returns-2
 returns-2 c =
-    let args = begun c .args in
-    let here = c .before .before .before .before .before .if1 .left in
-    ⇒-judged (each-inside (moveChecks (nodesOnly (args .nodes)) (args .moves .now)) here) (c .check-ends .result) (own-judged c)
+    let here = c .before .before .before in
+    let args = here .before .before .before .args in
+    let checks = moveChecks (args .nodes) (args .closed .now) (args .moves .now) in
+    ⇒-judged (each-inside checks (here .if1 .left)) (c .check-ends .result) (c .check-ends .ensures)
 
 pub check-entry-spec : {M : Type 1} → statement M
 check-entry-spec =
@@ -67,12 +48,10 @@ check-entry-spec =
     (tie.spec
     returns
     mul-at
-    mul-wide
-    shared-slice-read-wide
-    wide-requires
-    add-wide
-    mul-wide-2
-    shared-slice-read-wide-2
-    wide-requires-2
+    mul-start
+    shared-slice-read-start
+    add-goal
+    mul-goal
+    shared-slice-read-goal
     check-ends-requires
     returns-2)

@@ -1,36 +1,43 @@
--- `network::checks::check_job` meets its contract: the counts, the lanes, the moves and the order one after
--- the other. A refusal is that of the stages up to it, behind those that were sound; the order's answer comes
--- behind all others. Assumes nothing.
+-- `network::checks::check_job` meets its contract: the counts, the lanes, the closed nodes, the moves and the
+-- order one after the other. A refusal is that of the stages up to it, behind those that were sound; the
+-- order's answer comes behind all others. Assumes nothing.
 use mathlib.Core.List.{[], _∷_, _++_}
 use borrow.Author.Needs.{needs}
 use lib.ListN.{length}
 use Rattle.hall.specs.Floor.{networkOf}
 use Rattle.hall.specs.Job.{Numbers, jobOf, carriers}
 use Rattle.hall.specs.Stages.{Question, None}
-use Rattle.hall.specs.Questions.{counts, eachLane, eachMove, eachOrderPlace}
+use Rattle.hall.specs.Questions.{counts, eachLane, eachClosed, eachMove, eachOrderPlace}
 use Rattle.hall.proofs.Compose.{none-append, sound-none, judged-stop, judged-after}
 use Rattle.network.proofs.checks.check_job.Statement.{statement}
 use Rattle.network.proofs.checks.check_job.Tie as tie
 
 -- the job that is checked, and its stages by the callee that asks them
 abbrev job : tie.Start → Numbers
-job s = jobOf (networkOf (s .args .nodes) (s .args .lanes .now)) (s .args .moves .now) (s .args .order .now)
+job s =
+    let args = s .args in
+    jobOf (networkOf (args .nodes) (args .lanes .now) (args .closed .now)) (args .moves .now) (args .order .now)
 
 abbrev counted-by : Numbers → Question
-counted-by j = counts (j .network .nodes) (length (j .network .lanes)) (carriers j) (length (j .order))
+counted-by j =
+    counts (j .network .nodes) (length (j .network .lanes)) (length (j .network .closed)) (carriers j)
+    (length (j .order))
 
 abbrev lanes-of : Numbers → Question
-lanes-of j = eachLane (j .network) ∷ []
+lanes-of j = eachLane (j .network .nodes) (j .network .lanes) ∷ []
+
+abbrev closed-of : Numbers → Question
+closed-of j = eachClosed (j .network .nodes) (j .network .closed) ∷ []
 
 abbrev moves-of : Numbers → Question
-moves-of j = eachMove (j .network) (j .moves) ∷ []
+moves-of j = eachMove (j .network .nodes) (j .network .closed) (j .moves) ∷ []
 
 abbrev order-of : Numbers → Question
 order-of j = eachOrderPlace (carriers j) (j .order) ∷ []
 
 -- what is sound after each callee that was
 abbrev begun : tie.After-enum-told2 → tie.Start
-begun c = c .before .before .before .before .before .before
+begun c = c .before .before .before .before .before .before .before
 
 counts-passed : (c : tie.After-enum-told2) → None (counted-by (job (begun c)))
 counts-passed c =
@@ -47,15 +54,25 @@ lanes-passed c =
     none-append (counts-passed sound)
     (sound-none (lanes-of j) (c .enum-told4 .given .1) (checked .check-lanes .ensures))
 
-moves-passed : (c : tie.After-enum-told6) →
+closed-passed : (c : tie.After-enum-told6) →
     let j = job (begun (c .before .before .before .before .before .before)) in
-    None ((counted-by j ++ lanes-of j) ++ moves-of j)
-moves-passed c =
+    None ((counted-by j ++ lanes-of j) ++ closed-of j)
+closed-passed c =
     let checked = c .before .before in
     let sound = checked .before in
     let j = job (begun (sound .before .before .before)) in
     none-append (lanes-passed sound)
-    (sound-none (moves-of j) (c .enum-told6 .given .1) (checked .check-moves .ensures))
+    (sound-none (closed-of j) (c .enum-told6 .given .1) (checked .check-closed .ensures))
+
+moves-passed : (c : tie.After-enum-told8) →
+    let j = job (begun (c .before .before .before .before .before .before .before .before .before)) in
+    None (((counted-by j ++ lanes-of j) ++ closed-of j) ++ moves-of j)
+moves-passed c =
+    let checked = c .before .before in
+    let sound = checked .before in
+    let j = job (begun (sound .before .before .before .before .before .before)) in
+    none-append (closed-passed sound)
+    (sound-none (moves-of j) (c .enum-told8 .given .1) (checked .check-moves .ensures))
 
 check-counts-requires : tie.Need-check-counts-requires
 check-counts-requires c κs = search needs
@@ -66,8 +83,9 @@ enum-told c = search needs
 returns : tie.Need-returns
 returns c =
     let counted = c .before .before in
-    let j = job (counted .before .before .before .before) in
-    judged-stop (counted-by j) (lanes-of j ++ (moves-of j ++ order-of j)) (c .enum-told .given .1)
+    let j = job (counted .before .before .before .before .before) in
+    judged-stop (counted-by j) (lanes-of j ++ (closed-of j ++ (moves-of j ++ order-of j)))
+    (c .enum-told .given .1)
     (counted .check-counts .ensures)
 
 enum-told-2 : tie.Need-enum-told-2
@@ -84,15 +102,16 @@ returns-2 c =
     let checked = c .before .before in
     let sound = checked .before in
     let j = job (begun sound) in
-    judged-stop (counted-by j ++ lanes-of j) (moves-of j ++ order-of j) (c .enum-told3 .given .1)
+    judged-stop (counted-by j ++ lanes-of j) (closed-of j ++ (moves-of j ++ order-of j))
+    (c .enum-told3 .given .1)
     (judged-after (counted-by j) (lanes-of j) (counts-passed sound) (checked .check-lanes .result)
     (checked .check-lanes .ensures))
 
 enum-told-4 : tie.Need-enum-told-4
 enum-told-4 c = search needs
 
-check-moves-requires : tie.Need-check-moves-requires
-check-moves-requires c κs = search needs
+check-closed-requires : tie.Need-check-closed-requires
+check-closed-requires c κs = search needs
 
 enum-told-5 : tie.Need-enum-told-5
 enum-told-5 c = search needs
@@ -103,21 +122,41 @@ returns-3 c =
     let sound = checked .before in
     let j = job (begun (sound .before .before .before)) in
     let before = counted-by j ++ lanes-of j in
-    judged-stop (before ++ moves-of j) (order-of j) (c .enum-told5 .given .1)
-    (judged-after before (moves-of j) (lanes-passed sound) (checked .check-moves .result)
-    (checked .check-moves .ensures))
+    judged-stop (before ++ closed-of j) (moves-of j ++ order-of j) (c .enum-told5 .given .1)
+    (judged-after before (closed-of j) (lanes-passed sound) (checked .check-closed .result)
+    (checked .check-closed .ensures))
 
 enum-told-6 : tie.Need-enum-told-6
 enum-told-6 c = search needs
 
-check-order-requires : tie.Need-check-order-requires
-check-order-requires c κs = search needs
+check-moves-requires : tie.Need-check-moves-requires
+check-moves-requires c κs = search needs
+
+enum-told-7 : tie.Need-enum-told-7
+enum-told-7 c = search needs
 
 returns-4 : tie.Need-returns-4
 returns-4 c =
-    let sound = c .before in
+    let checked = c .before .before in
+    let sound = checked .before in
     let j = job (begun (sound .before .before .before .before .before .before)) in
-    judged-after ((counted-by j ++ lanes-of j) ++ moves-of j) (order-of j) (moves-passed sound)
+    let before = (counted-by j ++ lanes-of j) ++ closed-of j in
+    judged-stop (before ++ moves-of j) (order-of j) (c .enum-told7 .given .1)
+    (judged-after before (moves-of j) (closed-passed sound) (checked .check-moves .result)
+    (checked .check-moves .ensures))
+
+enum-told-8 : tie.Need-enum-told-8
+enum-told-8 c = search needs
+
+check-order-requires : tie.Need-check-order-requires
+check-order-requires c κs = search needs
+
+returns-5 : tie.Need-returns-5
+returns-5 c =
+    let sound = c .before in
+    let j = job (begun (sound .before .before .before .before .before .before .before .before .before)) in
+    judged-after (((counted-by j ++ lanes-of j) ++ closed-of j) ++ moves-of j) (order-of j)
+    (moves-passed sound)
     (c .check-order .result)
     (c .check-order .ensures)
 
@@ -133,9 +172,13 @@ check-job-spec =
     enum-told-3
     returns-2
     enum-told-4
-    check-moves-requires
+    check-closed-requires
     enum-told-5
     returns-3
     enum-told-6
+    check-moves-requires
+    enum-told-7
+    returns-4
+    enum-told-8
     check-order-requires
-    returns-4)
+    returns-5)

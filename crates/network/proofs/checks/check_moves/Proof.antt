@@ -4,7 +4,6 @@ use mathlib.Core.Path.{_≡_, refl}
 use Prim.Native.Nat.{_-_, _≤_}
 use native.Mathlib.Omega.{arith}
 use borrow.Author.Needs.{needs}
-use Rattle.hall.specs.Floor.{nodesOnly}
 use Rattle.hall.specs.Job.{moveCount}
 use Rattle.hall.specs.Questions.{moveChecks, eachMove}
 use Rattle.hall.proofs.Places.{Passed, loop-begins, stage-refuses, loop-passes, stage-ends}
@@ -12,11 +11,11 @@ use Rattle.network.proofs.checks.check_moves.Statement.{statement}
 use Rattle.network.proofs.checks.check_moves.Tie as tie
 
 abbrev Inv-loop : tie.InvT-loop
-Inv-loop nodes moves count i₀ i =
-    (count ≡ moveCount moves) × (i ≤ count) × Passed (eachMove (nodesOnly nodes) moves) i
+Inv-loop nodes closed moves count i₀ i =
+    (count ≡ moveCount moves) × (i ≤ count) × Passed (eachMove nodes closed moves) i
 
 abbrev μ-loop : tie.MeasureT-loop
-μ-loop nodes moves count i₀ i = count - i
+μ-loop nodes closed moves count i₀ i = count - i
 
 loop-holds : tie.Need-loop-holds Inv-loop μ-loop
 loop-holds c = (refl, omega arith, loop-begins _)
@@ -49,8 +48,8 @@ loop-again c =
 
 returns-2 : tie.Need-returns-2 Inv-loop μ-loop
 returns-2 c =
-    let args = c .before .before .before .args in
-    let checks = moveChecks (nodesOnly (args .nodes)) (args .moves .now) in
+    let args = c .before .before .before .before .args in
+    let checks = moveChecks (args .nodes) (args .closed .now) (args .moves .now) in
     stage-ends checks (c .loop-test .left) (c .before .loop .inv .2)
 
 pub check-moves-spec : {M : Type 1} → statement M

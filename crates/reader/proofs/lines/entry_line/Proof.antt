@@ -32,7 +32,7 @@ same-length c = search needs
 returns : tie.Need-returns
 returns c =
     let stored = rw (c .before .before .before .before .before .next .given .1) at (c .before .before .before .before .before .before .before .before .before .store-entry .ensures) in
-    entry-passes _ _ _ _ _ _ _ _ stored (rw (c .before .before .before .before .before .before .before .before .before .store-entry .kept .1 .1 .1 .1 .0) (c .before .before .before .before .before .before .before .before .before .before .before .before .before .pre)) _ (c .before .before .check-stored .ensures) (c .enum-told .given .1)
+    entry-passes _ _ _ _ _ _ _ _ _ stored (rw (c .before .before .before .before .before .before .before .before .before .store-entry .kept .1 .1 .1 .1 .0) (c .before .before .before .before .before .before .before .before .before .before .before .before .before .before .pre)) _ (c .before .before .check-stored .ensures) (c .enum-told .given .1)
 
 same-length-2 : tie.Need-same-length-2
 same-length-2 c = search needs
@@ -40,13 +40,13 @@ same-length-2 c = search needs
 returns-2 : tie.Need-returns-2
 returns-2 c =
     let stored = rw (c .before .before .before .before .before .before .before .next .given .1) at (c .before .before .before .before .before .before .before .before .before .before .before .store-entry .ensures) in
-    entry-fails _ _ _ _ _ _ _ _ stored (rw (c .before .before .before .before .before .before .before .before .before .before .before .store-entry .kept .1 .1 .1 .1 .0) (c .before .before .before .before .before .before .before .before .before .before .before .before .before .before .before .pre)) _ (c .before .before .before .before .check-stored .ensures) _ _ (c .before .before .r .given .1) (c .refusal .ensures)
+    entry-fails _ _ _ _ _ _ _ _ _ stored (rw (c .before .before .before .before .before .before .before .before .before .before .before .store-entry .kept .1 .1 .1 .1 .0) (c .before .before .before .before .before .before .before .before .before .before .before .before .before .before .before .before .pre)) _ (c .before .before .before .before .check-stored .ensures) _ _ (c .before .before .r .given .1) (c .refusal .ensures)
 
 same-length-3 : tie.Need-same-length-3
 same-length-3 c = search needs
 
 returns-3 : tie.Need-returns-3
-returns-3 c = entry-lacks _ _ _ _ _ _ _ _ (rw (c .before .r2 .given .1) at (c .before .before .before .before .before .store-entry .ensures))
+returns-3 c = entry-lacks _ _ _ _ _ _ _ _ _ (rw (c .before .r2 .given .1) at (c .before .before .before .before .before .store-entry .ensures))
 
 pub entry-line-spec : {M : Type 1} → statement M
 entry-line-spec =

@@ -2,13 +2,11 @@
 -- at places 2k and 2k + 1; a line of another form is none. Assumes nothing.
 use native.Mathlib.Omega.{arith}
 use lib.ListN.{length-set}
-use Rattle.reader.proofs.EntryLines.{two-numbers, stored-one, stored-two, not-stored}
+use Rattle.reader.proofs.EntryKinds.{one-number, two-numbers}
+use Rattle.reader.proofs.EntryLines.{stored-one, stored-two, not-stored}
 use borrow.Author.Needs.{needs}
 use Rattle.reader.proofs.lines.store_entry.Statement.{statement}
 use Rattle.reader.proofs.lines.store_entry.Tie as tie
-
-enum-told : tie.Need-enum-told
-enum-told c = search needs
 
 one-requires : tie.Need-one-requires
 one-requires c κs = search needs
@@ -18,33 +16,19 @@ enum-known-a c = search needs
 
 mul-table : tie.Need-mul-table
 mul-table c =
-    let h = rw (c .before .before .before .before .enum-told .given .1) at (c .before .before .before .before .before .before .before .before .pre) in
+    let h = rw (one-number _ (c .before .before .before .before .match .keys1)) at (c .before .before .before .before .before .before .before .pre) in
     search needs
 
 slice-write-table : tie.Need-slice-write-table
 slice-write-table c =
-    let h = rw (c .before .before .before .before .enum-told .given .1) at (c .before .before .before .before .before .before .before .before .pre) in
+    let h = rw (one-number _ (c .before .before .before .before .match .keys1)) at (c .before .before .before .before .before .before .before .pre) in
     omega arith
 
-same-length : tie.Need-same-length
-same-length c = search needs
-
-returns : tie.Need-returns
-returns c =
-    let h = rw (c .before .before .before .before .enum-told .given .1) at (c .before .before .before .before .before .before .before .before .pre) in
-    let taken = rw (c .before .a .given .1) at (c .before .before .before .one .ensures) in
-    rw (c .before .before .before .before .enum-told .given .1) (stored-one _ _ _ _ _ _ taken (omega arith))
-
-enum-told-2 : tie.Need-enum-told-2
-enum-told-2 c = search needs
+enum-told : tie.Need-enum-told
+enum-told c = search needs
 
 refusal-requires : tie.Need-refusal-requires
 refusal-requires c κs = search needs
-
-returns-2 : tie.Need-returns-2
-returns-2 c =
-    rw (c .before .before .before .before .enum-told .given .1)
-    (not-stored _ _ _ _ _ _ (c .refusal .ensures) (rw (c .before .enum-told2 .given .1) at (c .before .before .before .one .ensures)))
 
 pair-requires : tie.Need-pair-requires
 pair-requires c κs = search needs
@@ -82,11 +66,25 @@ slice-write-table-3 c =
     let h = rw (two-numbers _ (c .before .before .before .before .match .keys2)) at (c .before .before .before .before .before .before .before .pre) in
     simp length-set (omega arith)
 
-enum-told-3 : tie.Need-enum-told-3
-enum-told-3 c = search needs
+enum-told-2 : tie.Need-enum-told-2
+enum-told-2 c = search needs
 
 refusal-requires-2 : tie.Need-refusal-requires-2
 refusal-requires-2 c κs = search needs
+
+same-length : tie.Need-same-length
+same-length c = search needs
+
+returns : tie.Need-returns
+returns c =
+    let h = rw (one-number _ (c .before .before .before .before .match .keys1)) at (c .before .before .before .before .before .before .before .pre) in
+    let taken = rw (c .before .a .given .1) at (c .before .before .before .one .ensures) in
+    rw (one-number _ (c .before .before .before .before .match .keys1)) (stored-one _ _ _ _ _ _ taken (omega arith))
+
+returns-2 : tie.Need-returns-2
+returns-2 c =
+    rw (one-number _ (c .before .before .before .before .match .keys1))
+    (not-stored _ _ _ _ _ _ (c .refusal .ensures) (rw (c .before .enum-told .given .1) at (c .before .before .before .one .ensures)))
 
 same-length-2 : tie.Need-same-length-2
 same-length-2 c = search needs
@@ -100,22 +98,18 @@ returns-3 c =
 returns-4 : tie.Need-returns-4
 returns-4 c =
     rw (two-numbers _ (c .before .before .before .before .match .keys2))
-    (not-stored _ _ _ _ _ _ (c .refusal2 .ensures) (rw (c .before .enum-told3 .given .1) at (c .before .before .before .pair .ensures)))
+    (not-stored _ _ _ _ _ _ (c .refusal2 .ensures) (rw (c .before .enum-told2 .given .1) at (c .before .before .before .pair .ensures)))
 
 pub store-entry-spec : {M : Type 1} → statement M
 store-entry-spec =
     tie.close
     (tie.spec
-    enum-told
     one-requires
     enum-known-a
     mul-table
     slice-write-table
-    same-length
-    returns
-    enum-told-2
+    enum-told
     refusal-requires
-    returns-2
     pair-requires
     enum-known-a-2
     mul-at
@@ -124,8 +118,11 @@ store-entry-spec =
     add-table
     mul-table-3
     slice-write-table-3
-    enum-told-3
+    enum-told-2
     refusal-requires-2
+    same-length
+    returns
+    returns-2
     same-length-2
     returns-3
     returns-4)

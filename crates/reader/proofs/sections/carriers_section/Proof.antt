@@ -1,6 +1,7 @@
 -- `reader::sections::carriers_section` meets its contract: its count, then its moves; or a refusal. Assumes
 -- nothing.
 use mathlib.Core.Path.{refl}
+use mathlib.Core.Logic.{inl}
 use native.Mathlib.Omega.{arith}
 use Rattle.hall.specs.Limits.{moveNumbers}
 use Rattle.form.specs.Words.{CARRIERS}
@@ -32,9 +33,9 @@ unfolding CARRIERS
 entry-lines-requires c κs =
     let state = c .before .before .before .before .before .before .before .before .before .progress in
     let counted = rw (c .before .before .before .count .given .1) at (c .before .before .before .before .before .count-line .ensures) in
-    let pre = c .before .before .before .before .before .before .before .before .before .before .before .before .before .pre in
+    let pre = c .before .before .before .before .before .before .before .before .before .before .before .before .before .before .pre in
     let within = counted .within in
-    (entries-begun _ Moves putCarriers CARRIERS refl refl _ _ (state .given .0 .0) (λ read asks. carriers-limited read) _ _ counted (λ read asks. asks) (rw (state .given .1) at (pre .0)), omega arith)
+    (entries-begun _ _ Moves putCarriers CARRIERS refl _ _ (state .given .0 .0) (inl refl) (λ read asks. carriers-limited read) _ _ counted (λ read asks. asks) (rw (state .given .1) at (pre .0)), omega arith)
 
 enum-known-r : tie.Need-enum-known-r
 enum-known-r c = search needs
@@ -52,17 +53,17 @@ returns c =
     let counted = rw (c .before .before .before .before .before .before .count .given .1) at (c .before .before .before .before .before .before .before .before .count-line .ensures) in
     let within = counted .within in
     rw (state .given .1)
-    (step-entries _ Moves putCarriers CARRIERS refl refl _ _ (state .given .0 .0) (λ read asks. carriers-limited read) _ _ counted (λ read asks. asks) moveNumbers (omega arith) _ _ _ (c .before .before .entry-lines .ensures))
+    (step-entries _ _ Moves putCarriers CARRIERS refl _ _ (state .given .0 .0) (inl refl) (λ read asks. carriers-limited read) _ _ counted (λ read asks. asks) moveNumbers (omega arith) _ _ _ (c .before .before .entry-lines .ensures))
 
 returns-2 : tie.Need-returns-2
 unfolding CARRIERS
 returns-2 c =
     let state = c .before .before .before .before .before .before .before .progress in
     let counted = rw (c .before .r .given .1) at (c .before .before .before .count-line .ensures) in
-    rw (state .given .1) (count-stops _ carriersSection putCarriers _ CARRIERS refl refl _ _ (state .given .0 .0) (λ read asks. carriers-limited read) moveNumbers _ counted)
+    rw (state .given .1) (count-stops _ _ carriersSection putCarriers _ CARRIERS refl _ _ (state .given .0 .0) (inl refl) (λ read asks. carriers-limited read) moveNumbers _ counted)
 
 returns-3 : tie.Need-returns-3
-returns-3 c = rw (c .before .progress2 .given .1) (step-passes _ carriersSection putCarriers _ moveNumbers _)
+returns-3 c = rw (c .before .progress2 .given .1) (step-passes _ _ carriersSection putCarriers _ moveNumbers _)
 
 pub carriers-section-spec : {M : Type 1} → statement M
 carriers-section-spec =

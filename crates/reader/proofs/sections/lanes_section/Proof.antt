@@ -1,6 +1,7 @@
 -- `reader::sections::lanes_section` meets its contract: its count, then its lanes; or a refusal. Assumes
 -- nothing.
 use mathlib.Core.Path.{refl}
+use mathlib.Core.Logic.{inl}
 use native.Mathlib.Omega.{arith}
 use Rattle.hall.specs.Limits.{laneNumbers}
 use Rattle.form.specs.Words.{LANES}
@@ -27,14 +28,17 @@ count-line-requires c κs = lanes-capitals
 enum-known-count : tie.Need-enum-known-count
 enum-known-count c = search needs
 
+slice-aggregate-entry-lines : tie.Need-slice-aggregate-entry-lines
+slice-aggregate-entry-lines c = search needs
+
 entry-lines-requires : tie.Need-entry-lines-requires
 unfolding LANES
 entry-lines-requires c κs =
-    let state = c .before .before .before .before .before .before .before .before .before .progress in
-    let counted = rw (c .before .before .before .count .given .1) at (c .before .before .before .before .before .count-line .ensures) in
-    let pre = c .before .before .before .before .before .before .before .before .before .before .before .before .before .pre in
+    let state = c .before .before .before .before .before .before .before .before .before .before .progress in
+    let counted = rw (c .before .before .before .before .count .given .1) at (c .before .before .before .before .before .before .count-line .ensures) in
+    let pre = c .before .before .before .before .before .before .before .before .before .before .before .before .before .before .pre in
     let within = counted .within in
-    (entries-begun _ Lanes putLanes LANES refl refl _ _ (state .given .0 .0) (λ read asks. lanes-limited read) _ _ counted (λ read asks. asks) (rw (state .given .1) at (pre .0)), omega arith)
+    (entries-begun _ _ Lanes putLanes LANES refl _ _ (state .given .0 .0) (inl refl) (λ read asks. lanes-limited read) _ _ counted (λ read asks. asks) (rw (state .given .1) at (pre .0)), omega arith)
 
 enum-known-r : tie.Need-enum-known-r
 enum-known-r c = search needs
@@ -48,21 +52,21 @@ same-length c = search needs
 returns : tie.Need-returns
 unfolding LANES
 returns c =
-    let state = c .before .before .before .before .before .before .before .before .before .before .before .before .progress in
-    let counted = rw (c .before .before .before .before .before .before .count .given .1) at (c .before .before .before .before .before .before .before .before .count-line .ensures) in
+    let state = c .before .before .before .before .before .before .before .before .before .before .before .before .before .progress in
+    let counted = rw (c .before .before .before .before .before .before .before .count .given .1) at (c .before .before .before .before .before .before .before .before .before .count-line .ensures) in
     let within = counted .within in
     rw (state .given .1)
-    (step-entries _ Lanes putLanes LANES refl refl _ _ (state .given .0 .0) (λ read asks. lanes-limited read) _ _ counted (λ read asks. asks) laneNumbers (omega arith) _ _ _ (c .before .before .entry-lines .ensures))
+    (step-entries _ _ Lanes putLanes LANES refl _ _ (state .given .0 .0) (inl refl) (λ read asks. lanes-limited read) _ _ counted (λ read asks. asks) laneNumbers (omega arith) _ _ _ (c .before .before .entry-lines .ensures))
 
 returns-2 : tie.Need-returns-2
 unfolding LANES
 returns-2 c =
     let state = c .before .before .before .before .before .before .before .progress in
     let counted = rw (c .before .r .given .1) at (c .before .before .before .count-line .ensures) in
-    rw (state .given .1) (count-stops _ lanesSection putLanes _ LANES refl refl _ _ (state .given .0 .0) (λ read asks. lanes-limited read) laneNumbers _ counted)
+    rw (state .given .1) (count-stops _ _ lanesSection putLanes _ LANES refl _ _ (state .given .0 .0) (inl refl) (λ read asks. lanes-limited read) laneNumbers _ counted)
 
 returns-3 : tie.Need-returns-3
-returns-3 c = rw (c .before .progress2 .given .1) (step-passes _ lanesSection putLanes _ laneNumbers _)
+returns-3 c = rw (c .before .progress2 .given .1) (step-passes _ _ lanesSection putLanes _ laneNumbers _)
 
 pub lanes-section-spec : {M : Type 1} → statement M
 lanes-section-spec =
@@ -72,6 +76,7 @@ lanes-section-spec =
     slice-aggregate-count-line
     count-line-requires
     enum-known-count
+    slice-aggregate-entry-lines
     entry-lines-requires
     enum-known-r
     enum-known-progress-2

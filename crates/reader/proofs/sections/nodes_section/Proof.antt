@@ -1,5 +1,9 @@
 -- `reader::sections::nodes_section` meets its contract: its count alone is the section. Assumes nothing.
 use mathlib.Core.Path.{refl}
+use mathlib.Core.Logic.{inl}
+use mathlib.Core.Logic.{inl}
+use mathlib.Core.Logic.{inl}
+use mathlib.Core.Logic.{inl}
 use mathlib.Core.List.{[]}
 use Rattle.form.specs.Words.{NODES}
 use Rattle.form.specs.JobText.{nodesSection}
@@ -34,17 +38,17 @@ unfolding NODES
 returns c =
     let state = c .before .before .before .before .before .before .before .before .progress in
     let counted = rw (c .before .before .count .given .1) at (c .before .before .before .before .count-line .ensures) in
-    rw (state .given .1) (step-counted _ nodesSection putNodes [] NODES refl refl _ _ (state .given .0 .0) (λ read asks. nodes-limited read) _ _ counted (λ m. refl) 0)
+    rw (state .given .1) (step-counted _ _ nodesSection putNodes [] NODES refl _ _ (state .given .0 .0) (inl refl) (λ read asks. nodes-limited read) _ _ counted (λ m. refl) 0)
 
 returns-2 : tie.Need-returns-2
 unfolding NODES
 returns-2 c =
     let state = c .before .before .before .before .before .before .before .progress in
     let counted = rw (c .before .r .given .1) at (c .before .before .before .count-line .ensures) in
-    rw (state .given .1) (count-stops _ nodesSection putNodes [] NODES refl refl _ _ (state .given .0 .0) (λ read asks. nodes-limited read) 0 _ counted)
+    rw (state .given .1) (count-stops _ _ nodesSection putNodes [] NODES refl _ _ (state .given .0 .0) (inl refl) (λ read asks. nodes-limited read) 0 _ counted)
 
 returns-3 : tie.Need-returns-3
-returns-3 c = rw (c .before .progress2 .given .1) (step-passes _ nodesSection putNodes [] 0 _)
+returns-3 c = rw (c .before .progress2 .given .1) (step-passes _ _ nodesSection putNodes [] 0 _)
 
 pub nodes-section-spec : {M : Type 1} → statement M
 nodes-section-spec =

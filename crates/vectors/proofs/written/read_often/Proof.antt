@@ -8,12 +8,12 @@ use Rattle.vectors.proofs.written.read_often.Statement.{statement}
 use Rattle.vectors.proofs.written.read_often.Tie as tie
 
 abbrev Inv-loop : tie.InvT-loop
-Inv-loop further text lanes₀ moves₀ order₀ i₀ lanes moves order i =
+Inv-loop further text lanes₀ closed₀ moves₀ order₀ i₀ lanes closed moves order i =
     (i ≤ further) ×
-    ((length lanes ≡ length lanes₀) × ((length moves ≡ length moves₀) × (length order ≡ length order₀)))
+    ((length lanes ≡ length lanes₀) × ((length closed ≡ length closed₀) × ((length moves ≡ length moves₀) × (length order ≡ length order₀))))
 
 abbrev μ-loop : tie.MeasureT-loop
-μ-loop further text lanes₀ moves₀ order₀ i₀ lanes moves order i = further - i
+μ-loop further text lanes₀ closed₀ moves₀ order₀ i₀ lanes closed moves order i = further - i
 
 loop-holds : tie.Need-loop-holds Inv-loop μ-loop
 loop-holds c = search needs
@@ -42,6 +42,9 @@ same-length-2 c = search needs
 same-length-3 : tie.Need-same-length-3 Inv-loop μ-loop
 same-length-3 c = search needs
 
+same-length-4 : tie.Need-same-length-4 Inv-loop μ-loop
+same-length-4 c = search needs
+
 returns : tie.Need-returns Inv-loop μ-loop
 returns c = search needs
 
@@ -60,4 +63,5 @@ read-often-spec =
     same-length
     same-length-2
     same-length-3
+    same-length-4
     returns)

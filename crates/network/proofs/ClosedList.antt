@@ -1,0 +1,64 @@
+-- One entry of the list of closed nodes: it is faulty if it is no node, or if it is not higher than the entry
+-- before; and in no other way. The numbers come as the code has read them, with the equation that says where.
+-- The entry before entry k stands at k - 1. And whether a node is one of the first k entries (`Found`), entry
+-- by entry: `found-none`, `found-more`, `found-all`. Assumes nothing.
+use mathlib.Core.Path.{_≡_, sym, _∙_, ap, subst}
+use mathlib.Core.Logic.{_⊎_, inl, inr}
+use mathlib.Core.Bool.{Bool, true, false}
+use mathlib.Core.List.{List}
+use Prim.Native.Nat.{ℕ, _+_, _-_, _≤_, _<_}
+use native.Mathlib.Decide.{ℕ-discrete}
+use native.Mathlib.Omega.{arith}
+use lib.ListN.{length, getD}
+use Rattle.hall.specs.Floor.{Closed}
+use Rattle.hall.specs.Rule.{Answers}
+use Rattle.hall.specs.Refusals.{ClosedFault, no-such-node, not-higher}
+
+module _ (nodes : ℕ) (closed : List ℕ) (k node : ℕ) (e : node ≡ getD closed k 0) where
+  pub no-node-bad : nodes ≤ node → ClosedFault nodes closed k
+  no-node-bad l = no-such-node (omega arith)
+
+  pub first-entry-sound : node < nodes → k ≡ 0 → ¬ ClosedFault nodes closed k
+  first-entry-sound l z (no-such-node x) = omega arith
+  first-entry-sound l z (not-higher j s x) = omega arith
+
+  module _ (before : ℕ) (b : before ≡ getD closed (k - 1) 0) (later : k ≡ 0 → ⊥) where
+    entry-before : (j : ℕ) → j + 1 ≡ k → getD closed j 0 ≡ before
+    entry-before j s =
+        let at : j ≡ k - 1 = omega arith in
+        ap (λ (n : ℕ). getD closed n 0) at ∙ sym b
+
+    pub rising-entry-sound : node < nodes → before < node → ¬ ClosedFault nodes closed k
+    rising-entry-sound l r (no-such-node x) = omega arith
+    rising-entry-sound l r (not-higher j s x) = omega (arith, entry-before j s)
+
+    pub falling-entry-bad : node ≤ before → ClosedFault nodes closed k
+    falling-entry-bad r = not-higher (k - 1) (omega arith) (omega arith)
+
+-- ---- a node among the first entries
+
+pub record Found (closed : List ℕ) (node k : ℕ) : Type 0 where
+  pub place : ℕ
+  pub before : place < k
+  pub is : getD closed place 0 ≡ node
+
+module _ (closed : List ℕ) (node : ℕ) where
+  pub found-none : ¬ Found closed node 0
+  found-none m = omega (arith, m .before)
+
+  pub found-more : (k : ℕ) (b b′ : Bool) → Answers b (Found closed node k) →
+      ((getD closed k 0 ≡ node) × (b′ ≡ true)) ⊎ ((¬ (getD closed k 0 ≡ node)) × (b′ ≡ b)) →
+      Answers b′ (Found closed node (k + 1))
+  found-more k b b′ a (inl x) = rw (x .1) (record { place = k; before = omega arith; is = x .0 })
+  found-more k true b′ a (inr x) =
+      rw (x .1) (record { place = a .place; before = omega (arith, a .before); is = a .is })
+  found-more k false b′ a (inr x) = rw (x .1) (λ m. last m (ℕ-discrete (m .place) k))
+    where
+      last : (m : Found closed node (k + 1)) → Dec (m .place ≡ k) → ⊥
+      last m (yes e) = x .0 (subst (λ (i : ℕ). getD closed i 0 ≡ node) e (m .is))
+      last m (no e) = a (record { place = m .place; before = omega (arith, m .before); is = m .is })
+
+  pub found-all : (k : ℕ) (b : Bool) → k ≡ length closed → Answers b (Found closed node k) →
+      Answers b (Closed closed node)
+  found-all k true e a = record { k = a .place; inside = omega (arith, a .before); is = a .is }
+  found-all k false e a = λ c. a (record { place = c .k; before = omega (arith, c .inside); is = c .is })
