@@ -91,38 +91,22 @@ pub fn answers_to(case: &Case) -> Vec<Answer> {
             Case::PrintTo { out, text } => {
                 Answer::Left(lent::print_to(*out, &answer_to_text(text).printed()))
             }
-            Case::PlanRecords { table, job } => {
-                Answer::Left(lent_plan::records(*table, &job.hall, &job.records, &job.order))
+            Case::PlanRecords { table, job } => Answer::Left(lent_plan::records(*table, job)),
+            Case::PlanLists { lent, job } => Answer::Left(lent_plan::lists(*lent, job)),
+            Case::PathOfRecords { path, carrier, job } => {
+                Answer::Left(lent::house_of_records(*path, *carrier, job))
             }
-            Case::PlanLists { lent, hall, moves, order } => {
-                Answer::Left(lent_plan::lists(*lent, hall, moves, order))
-            }
-            Case::PathOfRecords { path, carrier, job } => Answer::Left(lent::house_of_records(
-                *path,
-                *carrier,
-                &job.hall,
-                &job.records,
-                &job.order,
-            )),
             Case::PathLent { path, asked, hall } => {
                 Answer::Left(lent::house_of_move(*path, *asked, hall))
             }
-            Case::JudgeRecords { carrier, list, job } => Answer::Left(lent::judge_of_records(
-                *carrier,
-                list,
-                &job.hall,
-                &job.records,
-                &job.order,
-            )),
+            Case::JudgeRecords { carrier, list, job } => {
+                Answer::Left(lent::judge_of_records(*carrier, list, job))
+            }
             Case::ChooseNumbers { asked, own, spare, hall } => {
                 Answer::Left(lent::choice(*asked, own, spare, hall))
             }
-            Case::WriteNumbers { out, hall, moves, order } => {
-                Answer::Left(lent_write::numbers(*out, hall, moves, order))
-            }
-            Case::WriteRecords { out, job } => {
-                Answer::Left(lent_write::records(*out, &job.hall, &job.records, &job.order))
-            }
+            Case::WriteNumbers { out, job } => Answer::Left(lent_write::numbers(*out, job)),
+            Case::WriteRecords { out, job } => Answer::Left(lent_write::records(*out, job)),
         };
     vec![one]
 }

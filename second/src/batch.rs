@@ -4,7 +4,7 @@
 // their kinds; coding.rs puts them into a file and takes them out.
 
 use crate::job::{Hall, Job, Move};
-use crate::lent::Record;
+use crate::lent_jobs::{Listed, Recorded};
 
 #[derive(Clone)]
 pub enum Case {
@@ -38,7 +38,7 @@ pub enum Case {
     /// `p`: plan a job of records into a lent table.
     PlanRecords { table: u16, job: Recorded },
     /// `t`: the same on numbers, with lists for distances and ticks.
-    PlanLists { lent: [u16; 3], hall: Hall, moves: Vec<u16>, order: Vec<u16> },
+    PlanLists { lent: [u16; 3], job: Listed },
     /// `o`: house path of a carrier of a job of records, into a lent list.
     PathOfRecords { path: u16, carrier: u16, job: Recorded },
     /// `w`: house path of a move into a lent list.
@@ -48,17 +48,9 @@ pub enum Case {
     /// `c`: choice between two lists with a network and a move.
     ChooseNumbers { asked: Move, own: Vec<u16>, spare: Vec<u16>, hall: Hall },
     /// `x`: write a job from numbers into lent bytes.
-    WriteNumbers { out: u16, hall: Hall, moves: Vec<u16>, order: Vec<u16> },
+    WriteNumbers { out: u16, job: Listed },
     /// `y`: write a job of records into lent bytes.
     WriteRecords { out: u16, job: Recorded },
-}
-
-/// A job from numbers with whole records.
-#[derive(Clone)]
-pub struct Recorded {
-    pub hall: Hall,
-    pub records: Vec<Record>,
-    pub order: Vec<u16>,
 }
 
 /// All kinds, in the order in which the histogram shows them.

@@ -9,76 +9,13 @@ use crate::closed_texts::{section_texts, spoiled_texts};
 use crate::dice::Dice;
 use crate::faults::{double_faults, larger_job, single_faults};
 use crate::halls::grid;
-use crate::job::{move_fault, Hall, Job, Move};
-use crate::lent_cases::{list_for, moves_of, recorded};
-use crate::lent_lengths::{least, FOR_MOVES, FOR_RECORDS, PATH, TABLE, TIMES};
+use crate::job::{Hall, Move};
+use crate::lent_cases::recorded;
 use crate::limits_closed::limit_cases;
 use crate::page;
 use crate::paths::house_path_of_move;
+use crate::questions::{text_cases, with_a_move, with_the_job};
 use crate::text;
-
-/// Each text is planned, and by turns read or written.
-fn text_cases(texts: Vec<Vec<u8>>) -> Vec<Case> {
-    let mut cases = Vec::new();
-    for (turn, text) in texts.into_iter().enumerate() {
-        cases.push(Case::Plan { text: text.clone() });
-        cases.push(match turn % 5 {
-            0 => Case::Read { text },
-            1 => Case::ReadRecords { lent: least(FOR_RECORDS), text },
-            2 => Case::ReadMoves { lent: least(FOR_MOVES), text },
-            3 => Case::WriteText { readings: 0, writings: 0, text },
-            _ => Case::PathOfCarrier { carrier: 0, text },
-        });
-    }
-    cases
-}
-
-/// A question with a whole job, each by turns.
-fn with_the_job(dice: &mut Dice, job: &Job, turn: usize) -> Case {
-    let carrier = dice.below(job.moves.len()) as u16;
-    let [table] = least([TABLE]);
-    match turn % 5 {
-        0 => Case::PlanNumbers { job: job.clone() },
-        1 => Case::PlanRecords { table, job: recorded(dice, job) },
-        2 => {
-            let (hall, order) = (job.hall.clone(), job.order.clone());
-            Case::PlanLists {
-                lent: least([TABLE, TIMES, TIMES]),
-                hall,
-                moves: moves_of(job),
-                order,
-            }
-        }
-        3 => {
-            let [path] = least([PATH]);
-            Case::PathOfRecords { path, carrier, job: recorded(dice, job) }
-        }
-        _ => {
-            let list = list_for(dice, &job.hall, job.moves[usize::from(carrier)]);
-            Case::JudgeRecords { carrier, list, job: recorded(dice, job) }
-        }
-    }
-}
-
-/// A question with the job's network and its first faulty move, or carrier 0's
-/// if all are sound.
-fn with_a_move(dice: &mut Dice, job: &Job, turn: usize) -> Case {
-    let hall = job.hall.clone();
-    let is_faulty = |asked: &Move| move_fault(hall.nodes, &hall.closed, *asked).is_some();
-    let asked = job.moves.iter().copied().find(is_faulty).unwrap_or(job.moves[0]);
-    let list = list_for(dice, &hall, asked);
-    match turn % 3 {
-        0 => Case::MoveNumbers { hall, asked, list },
-        1 => {
-            let [path] = least([PATH]);
-            Case::PathLent { path, asked, hall }
-        }
-        _ => {
-            let spare = list_for(dice, &hall, asked);
-            Case::ChooseNumbers { asked, own: list, spare, hall }
-        }
-    }
-}
 
 fn fault_cases(dice: &mut Dice) -> Vec<Case> {
     let mut jobs = single_faults(&page::plates_taken_up());

@@ -5,7 +5,8 @@
 
 use crate::batch::Case;
 use crate::payload::{
-    put_hall, put_list, put_long, put_move, put_recorded, put_short, put_shorts, Rest,
+    put_hall, put_job, put_list, put_listed, put_long, put_move, put_recorded, put_short,
+    put_shorts, Rest,
 };
 
 impl Case {
@@ -37,13 +38,7 @@ impl Case {
                 put_list(&mut out, spare);
                 out.extend(text);
             }
-            Case::PlanNumbers { job } => {
-                put_hall(&mut out, &job.hall);
-                put_long(&mut out, job.moves.len());
-                job.moves.iter().for_each(|&asked| put_move(&mut out, asked));
-                put_long(&mut out, job.order.len());
-                put_shorts(&mut out, &job.order);
-            }
+            Case::PlanNumbers { job } => put_job(&mut out, job),
             Case::MoveNumbers { hall, asked, list } => {
                 put_hall(&mut out, hall);
                 put_move(&mut out, *asked);
@@ -65,11 +60,9 @@ impl Case {
                 put_short(&mut out, *table);
                 put_recorded(&mut out, job);
             }
-            Case::PlanLists { lent, hall, moves, order } => {
+            Case::PlanLists { lent, job } => {
                 put_shorts(&mut out, lent);
-                put_hall(&mut out, hall);
-                put_list(&mut out, moves);
-                put_list(&mut out, order);
+                put_listed(&mut out, job);
             }
             Case::PathOfRecords { path, carrier, job } => {
                 put_shorts(&mut out, &[*path, *carrier]);
@@ -91,11 +84,9 @@ impl Case {
                 put_list(&mut out, spare);
                 put_hall(&mut out, hall);
             }
-            Case::WriteNumbers { out: lent, hall, moves, order } => {
+            Case::WriteNumbers { out: lent, job } => {
                 put_short(&mut out, *lent);
-                put_hall(&mut out, hall);
-                put_list(&mut out, moves);
-                put_list(&mut out, order);
+                put_listed(&mut out, job);
             }
             Case::WriteRecords { out: lent, job } => {
                 put_short(&mut out, *lent);
@@ -152,12 +143,7 @@ impl Case {
             b'm' => Case::ReadMoves { lent: rest.lengths()?, text: rest.text() },
             b'a' => Case::PrintTo { out: rest.short()?, text: rest.text() },
             b'p' => Case::PlanRecords { table: rest.short()?, job: rest.recorded()? },
-            b't' => Case::PlanLists {
-                lent: rest.lengths()?,
-                hall: rest.hall()?,
-                moves: rest.list()?,
-                order: rest.list()?,
-            },
+            b't' => Case::PlanLists { lent: rest.lengths()?, job: rest.listed()? },
             b'o' => Case::PathOfRecords {
                 path: rest.short()?,
                 carrier: rest.short()?,
@@ -177,12 +163,7 @@ impl Case {
                 spare: rest.list()?,
                 hall: rest.hall()?,
             },
-            b'x' => Case::WriteNumbers {
-                out: rest.short()?,
-                hall: rest.hall()?,
-                moves: rest.list()?,
-                order: rest.list()?,
-            },
+            b'x' => Case::WriteNumbers { out: rest.short()?, job: rest.listed()? },
             b'y' => Case::WriteRecords { out: rest.short()?, job: rest.recorded()? },
             other => return Err(format!("no kind has the byte {}", other)),
         };

@@ -1,10 +1,11 @@
 // Entries of a sound job text changed so that they break a check, one function
 // each, and some that repeat the ends of an earlier carrier, which breaks none
-// and hides none. Those that have to do with closed nodes stand in a file of
-// their own.
+// and hides none. Those that have to do with closed nodes or with the dwell
+// stand in files of their own.
 // Nothing here says which refusal comes out, or whether one does.
 
 use crate::damage_closed::CLOSED_DAMAGES;
+use crate::damage_dwell::DWELL_DAMAGES;
 use crate::dice::Dice;
 use crate::draft::Draft;
 
@@ -146,7 +147,7 @@ pub const ENTRY_DAMAGES: &[EntryDamage] = &[
     },
 ];
 
-/// All damages to entries, those of closed nodes last.
+/// All damages to entries, those of the dwell last.
 pub fn entry_damages() -> Vec<EntryDamage> {
-    [ENTRY_DAMAGES, CLOSED_DAMAGES].concat()
+    [ENTRY_DAMAGES, CLOSED_DAMAGES, DWELL_DAMAGES].concat()
 }

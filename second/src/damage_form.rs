@@ -1,7 +1,7 @@
-// Ways to spoil the form of a job text, one function each, in three groups:
-// lines that lack the form, lines in the wrong place, and bytes of the whole
-// text. They apply after the damages to entries, so that one text can have
-// faults on several lines, or a fault of form over a fault of value on one.
+// Ways to spoil the form of a job text, one function each, in two groups: lines
+// that lack the form, and lines in the wrong place. They apply after the damages
+// to entries, so that one text can have faults on several lines, or a fault of
+// form over a fault of value on one.
 
 use crate::dice::Dice;
 
@@ -13,9 +13,17 @@ fn space(line: &[u8]) -> usize {
     line.iter().position(|&byte| byte == b' ').unwrap_or(line.len())
 }
 
-fn put(line: &mut Vec<u8>, at: usize, bytes: &[u8]) {
+pub fn put(line: &mut Vec<u8>, at: usize, bytes: &[u8]) {
     line.splice(at..at, bytes.iter().copied());
 }
+
+/// Words for a line that should begin with another one, or with none.
+const HEADINGS: &[&[u8]] =
+    &[b"NODES", b"LANES", b"CLOSED", b"CARRIERS", b"ORDER", b"DWELL", b"CARRIER"];
+
+/// Lines that come in where none belongs.
+const EXTRA_LINES: &[&[u8]] =
+    &[b"0", b"0 1", b"NODES 2", b"CLOSED 1", b"# note", b"ORDER 0", b"DWELL 1"];
 
 /// Spoils the form of one line.
 type FormDamage = fn(&mut Vec<u8>, &mut Dice);
@@ -103,8 +111,7 @@ pub const FORM_DAMAGES: &[FormDamage] = &[
     |line, _| *line = b" ".to_vec(),
     // The heading of another section, or of none.
     |line, dice| {
-        let heading: &[u8] =
-            dice.pick(&[&b"NODES"[..], b"LANES", b"CLOSED", b"CARRIERS", b"ORDER", b"CARRIER"]);
+        let heading = dice.pick(HEADINGS);
         line.splice(..first_digit(line).saturating_sub(1), heading.iter().copied());
     },
     // A digit of another script: three bytes of the kind "other".
@@ -135,9 +142,7 @@ pub const LINE_DAMAGES: &[LineDamage] = &[
     },
     |lines, dice| {
         let at = dice.below(lines.len() + 1);
-        let extra: &[u8] =
-            dice.pick(&[&b"0"[..], b"0 1", b"NODES 2", b"CLOSED 1", b"# note", b"ORDER 0"]);
-        lines.insert(at, extra.to_vec());
+        lines.insert(at, dice.pick(EXTRA_LINES).to_vec());
     },
     // Only the first lines.
     |lines, dice| {
@@ -160,91 +165,6 @@ pub const LINE_DAMAGES: &[LineDamage] = &[
             let tail = lines[at].split_off(cut + 1);
             lines[at].pop();
             lines.insert(at + 1, tail);
-        }
-    },
-];
-
-/// Spoils bytes of the whole text.
-type ByteDamage = fn(&mut Vec<u8>, &mut Dice);
-
-const TAILS: &[&[u8]] = &[
-    b"\n",
-    b" ",
-    b"0",
-    b"0\n",
-    b"X",
-    b"\r\n",
-    b"\0",
-    b"\n\n",
-    b"NODES 1\n",
-    b"ORDER 0\n",
-    b"CLOSED 1\n0\n",
-    b"CARRIERS 0\nORDER 0\n",
-    b"\x1a",
-    b"\xff\xfe",
-    b"0 1\n",
-];
-
-pub const BYTE_DAMAGES: &[ByteDamage] = &[
-    // The end: no last line feed, bytes after it, or cut off anywhere.
-    |text, _| {
-        text.pop();
-    },
-    |text, dice| text.extend_from_slice(dice.pick(TAILS)),
-    |text, dice| text.truncate(dice.below(text.len() + 1)),
-    |text, dice| text.truncate(dice.below(text.len() + 1)),
-    // The line ends of other systems, and a mark that some editors put first.
-    |text, _| {
-        *text = text
-            .iter()
-            .flat_map(|&byte| match byte {
-                b'\n' => vec![b'\r', b'\n'],
-                other => vec![other],
-            })
-            .collect();
-    },
-    |text, _| {
-        for byte in text.iter_mut().filter(|byte| **byte == b'\n') {
-            *byte = b'\r';
-        }
-    },
-    |text, _| put(text, 0, b"\xef\xbb\xbf"),
-    // The whole text twice.
-    |text, _| text.extend(text.clone()),
-    // Some bytes are others: any, or such as sound texts have.
-    |text, dice| {
-        for _ in 0..dice.between(1, 3) {
-            let at = dice.below(text.len().max(1));
-            if let Some(byte) = text.get_mut(at) {
-                *byte = dice.word() as u8;
-            }
-        }
-    },
-    |text, dice| {
-        for _ in 0..dice.between(1, 3) {
-            let at = dice.below(text.len().max(1));
-            if let Some(byte) = text.get_mut(at) {
-                *byte = dice.pick(b"0123456789 \nNLCOA");
-            }
-        }
-    },
-    // A byte is lost, or one comes in.
-    |text, dice| {
-        if !text.is_empty() {
-            let at = dice.below(text.len());
-            text.remove(at);
-        }
-    },
-    |text, dice| {
-        let at = dice.below(text.len() + 1);
-        let byte = dice.pick(b"0123456789  \n\n\rNA\0");
-        put(text, at, &[byte]);
-    },
-    // One bit of one byte flips, as on a bad wire.
-    |text, dice| {
-        let at = dice.below(text.len().max(1));
-        if let Some(byte) = text.get_mut(at) {
-            *byte ^= 1 << dice.below(8);
         }
     },
 ];

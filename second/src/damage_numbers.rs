@@ -1,11 +1,12 @@
 // Ways to spoil a job or a network given as numbers, for the refusals that
 // only planning from numbers can give or whose order differs there: all
-// counts before all entries, and an odd list of lanes. Some close nodes that
-// are ends or that cut a walk. Some repeat the ends of another carrier, which is
-// no fault by itself and hides none.
+// counts and the dwell before all entries, and an odd list of lanes. Some close
+// nodes that are ends or that cut a walk. Some repeat the ends of another
+// carrier, which is no fault by itself and hides none.
 // Several can strike one job; none of them says which refusal comes out.
 
 use crate::dice::Dice;
+use crate::dwelling::{some_dwell, TOO_LONG_DWELLS};
 use crate::job::{Hall, Job, Move};
 
 fn no_node(hall: &Hall, dice: &mut Dice) -> u16 {
@@ -208,6 +209,12 @@ pub const JOB_DAMAGES: &[JobDamage] = &[
             let no_node = no_node(&job.hall, dice);
             job.moves[one].goal = dice.pick(&[job.moves[one].start, no_node]);
         }
+    },
+    |job, dice| {
+        // A dwell that is too long, or one that is not.
+        let sound = some_dwell(dice);
+        let too_long = dice.pick(&TOO_LONG_DWELLS);
+        job.dwell = dice.pick(&[sound, too_long, too_long]);
     },
 ];
 

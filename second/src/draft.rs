@@ -4,6 +4,7 @@
 
 use crate::closing::free_nodes;
 use crate::dice::Dice;
+use crate::dwelling::some_dwell;
 use crate::job::{Job, Move};
 use crate::text;
 
@@ -37,6 +38,11 @@ impl Draft {
 
     pub fn line_of_order(&self) -> usize {
         self.line_of_carriers() + 1 + self.carriers()
+    }
+
+    /// The line that tells the dwell, if there is one.
+    pub fn line_of_dwell(&self) -> usize {
+        self.line_of_order() + 1 + self.carriers()
     }
 
     fn set(&mut self, line: usize, text: String) -> usize {
@@ -102,6 +108,15 @@ impl Draft {
         section.extend(nodes.iter().map(|node| node.to_string().into_bytes()));
         self.lines.splice(from..from + old, section);
         self.job.hall.closed = nodes;
+    }
+
+    /// Sees to it that there is a dwell, and gives it its line in the text.
+    pub fn dwell_some(&mut self, dice: &mut Dice) {
+        if self.job.dwell == 0 {
+            self.job.dwell = some_dwell(dice);
+            let line = format!("DWELL {}", self.job.dwell).into_bytes();
+            self.lines.insert(self.line_of_dwell(), line);
+        }
     }
 
     /// A closed node and its place. Some node is closed.

@@ -1,10 +1,11 @@
 // Faults in jobs from numbers: each fault of an entry, to be put at any place
 // of its section, and each fault of a count. Jobs are made with each of them by
-// itself and with any two at once, where the order of checks decides. Nothing
-// here says which refusal comes out.
+// itself and with any two at once, where the order of checks decides, and with
+// each of them beside a dwell. Nothing here says which refusal comes out.
 
 use crate::closing::{close_free, free_nodes};
 use crate::dice::Dice;
+use crate::dwelling::TOO_LONG_DWELLS;
 use crate::halls::ample_job;
 use crate::job::{Job, Move};
 use crate::page;
@@ -202,6 +203,23 @@ pub fn double_faults(dice: &mut Dice) -> Vec<Job> {
         }
     }
     jobs
+}
+
+/// A small job with each fault, at a place that the dice find, and this dwell.
+pub fn faults_beside(dice: &mut Dice, dwell: u32) -> Vec<Job> {
+    let base = Job { dwell, ..page::plates_taken_up() };
+    let mut jobs = Vec::new();
+    for fault in Fault::all() {
+        let mut job = base.clone();
+        fault.put(&mut job, dice.below(fault.places(&base)));
+        jobs.push(job);
+    }
+    jobs
+}
+
+/// A small job with each dwell that is too long and no other fault.
+pub fn too_long_dwells() -> Vec<Job> {
+    TOO_LONG_DWELLS.map(|dwell| Job { dwell, ..page::plates_taken_up() }).to_vec()
 }
 
 /// A small job with each fault, at the first place.

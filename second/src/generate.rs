@@ -1,15 +1,19 @@
-// A batch: all small networks, also with closed nodes, the systematic faults,
-// trains, the limits, lent tables of all lengths, as many random cases as asked
-// for, and jobs that are written as texts. Random cases take turns through every
-// kind and every damage, so that even a short run has some of each.
+// A batch: all small networks, also with closed nodes or a dwell, the systematic
+// faults, carriers that wait on their goals, trains, the limits, lent tables of
+// all lengths, as many random cases as asked for, and jobs that are written as
+// texts. Random cases take turns through every kind and every damage, so that
+// even a short run has some of each.
 
 use crate::batch::Case;
 use crate::closed_cases::closed_cases;
+use crate::damage_bytes::BYTE_DAMAGES;
 use crate::damage_entries::entry_damages;
-use crate::damage_form::{BYTE_DAMAGES, FORM_DAMAGES, LINE_DAMAGES};
+use crate::damage_form::{FORM_DAMAGES, LINE_DAMAGES};
 use crate::damage_numbers::{damaged_hall, damaged_job, HALL_DAMAGES, JOB_DAMAGES};
 use crate::dice::Dice;
 use crate::draft::Draft;
+use crate::dwell_cases::dwell_cases;
+use crate::dwelling::dwelling_at_times;
 use crate::halls::{ample_job, any_hall, any_job, parted_job, through_one_corridor};
 use crate::job::Job;
 use crate::lent_cases::{lent_cases, random_lent};
@@ -88,7 +92,7 @@ pub fn noise(dice: &mut Dice) -> Vec<u8> {
     if dice.once_in(2) {
         (0..length).map(|_| dice.word() as u8).collect()
     } else {
-        (0..length).map(|_| dice.pick(b"NODESLAC 0123456789\n\n ")).collect()
+        (0..length).map(|_| dice.pick(b"NODESLACW 0123456789\n\n ")).collect()
     }
 }
 
@@ -114,7 +118,7 @@ fn corridor_job(dice: &mut Dice) -> Job {
     if dice.once_in(3) {
         dice.shuffle(&mut job.order);
     }
-    job
+    dwelling_at_times(dice, job)
 }
 
 fn some_plan_text(dice: &mut Dice, turn: usize) -> Vec<u8> {
@@ -221,6 +225,7 @@ pub fn batch(seed: u64, count: usize) -> Vec<Case> {
     cases.extend(small_closed_cases());
     cases.extend(systematic_cases(&mut dice));
     cases.extend(closed_cases(&mut dice));
+    cases.extend(dwell_cases(&mut dice));
     cases.extend(train_cases(&mut dice));
     cases.extend(limit_cases(&mut dice));
     cases.extend(lent_cases(&mut dice));

@@ -2,10 +2,12 @@
 // grids, trees, aisles, ladders, dense and sparse ones, some in two parts.
 // Shapes matter more than chance here: long corridors make late ticks, grids
 // and dense halls make gap 0 and its exception, parts make "no walk". In about
-// a third of the random halls some nodes are closed.
+// a third of the random halls some nodes are closed, and about a third of the
+// random jobs have a dwell.
 
 use crate::closing::closed_at_times;
 use crate::dice::Dice;
+use crate::dwelling::dwelling_at_times;
 use crate::ends::{moves_apart, moves_in};
 use crate::job::{Hall, Job, Move, MOST_CARRIERS, MOST_LANES};
 
@@ -154,7 +156,7 @@ fn ordered(dice: &mut Dice, hall: Hall, moves: Vec<Move>) -> Job {
     if !dice.once_in(4) {
         dice.shuffle(&mut order);
     }
-    Job { hall, moves, order }
+    Job { hall, moves, order, dwell: 0 }
 }
 
 /// A job over a hall, whose carriers mostly share ends.
@@ -185,11 +187,12 @@ pub fn any_job(dice: &mut Dice, most_nodes: usize, reachable: bool) -> Job {
     let nodes = dice.between(1, most_nodes);
     let hall = any_hall(dice, nodes);
     let carriers = some_carriers(dice, nodes);
-    job_over(dice, hall, carriers, reachable)
+    let job = job_over(dice, hall, carriers, reachable);
+    dwelling_at_times(dice, job)
 }
 
 /// Bays at each end of one corridor, and carriers that go from end to end and
-/// back in turn, two for each pair of bays. Each has to wait until the one
+/// back in turn, two for each pair of bays. Each is held back until the one
 /// before has left, so ticks come late; with 32 bays and 960 nodes between
 /// them they come close to the greatest that can be. Carrier numbers are dealt
 /// out at random, so that a number taken for a place shows. With an even
@@ -213,7 +216,7 @@ pub fn through_one_corridor(dice: &mut Dice, bays: usize, corridor: usize) -> Jo
             _ => Move { start: far, goal: near },
         };
     }
-    Job { hall, moves, order }
+    Job { hall, moves, order, dwell: 0 }
 }
 
 /// A job in a hall of several parts, where some goals are out of reach.
@@ -226,7 +229,8 @@ pub fn parted_job(dice: &mut Dice, most_nodes: usize) -> Job {
     let renumbered = renumbered(dice, &hall);
     let hall = closed_at_times(dice, renumbered);
     let carriers = dice.between(1, 8);
-    job_over(dice, hall, carriers, false)
+    let job = job_over(dice, hall, carriers, false);
+    dwelling_at_times(dice, job)
 }
 
 /// A job with at least two carriers and two lanes, so that each kind of
@@ -239,11 +243,10 @@ pub fn ample_job(dice: &mut Dice, most_nodes: usize) -> Job {
         _ => dice.between(2, 12),
     };
     let partly_closed = closed_at_times(dice, hall.clone());
-    let job = job_over(dice, partly_closed, carriers, true);
+    let mut job = job_over(dice, partly_closed, carriers, true);
     // What is closed may leave too few moves; then nothing is.
     if job.moves.len() < 2 {
-        job_over(dice, hall, carriers, true)
-    } else {
-        job
+        job = job_over(dice, hall, carriers, true);
     }
+    dwelling_at_times(dice, job)
 }

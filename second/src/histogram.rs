@@ -7,8 +7,7 @@
 use crate::answers::{answers_to, Answer};
 use crate::batch::{Case, KINDS};
 use crate::histogram_write::Written;
-use crate::job::Job;
-use crate::lent::{job_of, job_of_lists};
+use crate::job::{Job, MOST_DWELL};
 use crate::paths::Choice;
 use crate::text;
 
@@ -22,7 +21,7 @@ struct Row {
 #[derive(Default)]
 struct Extra {
     /// Refusals 2 from numbers by place.
-    places: [usize; 5],
+    places: [usize; 6],
     own: usize,
     spare: usize,
     neither: usize,
@@ -48,6 +47,9 @@ struct Shared {
     full: usize,
     /// Some node is closed.
     closed: usize,
+    /// Carriers wait on their goals, and as long as they may.
+    dwelling: usize,
+    longest: usize,
 }
 
 /// The job of an accepted case that is planned.
@@ -55,8 +57,8 @@ fn planned(case: &Case) -> Option<Job> {
     match case {
         Case::Plan { text } => text::read(text).ok(),
         Case::PlanNumbers { job } => Some(job.clone()),
-        Case::PlanRecords { job, .. } => Some(job_of(&job.hall, &job.records, &job.order)),
-        Case::PlanLists { hall, moves, order, .. } => Some(job_of_lists(hall, moves, order)),
+        Case::PlanRecords { job, .. } => Some(job.job()),
+        Case::PlanLists { job, .. } => Some(job.job()),
         _ => None,
     }
 }
@@ -69,7 +71,7 @@ fn repeats<T: Ord>(mut numbers: Vec<T>) -> bool {
 
 impl Shared {
     fn note(&mut self, case: &Case) {
-        let Job { hall, moves, .. } = match planned(case) {
+        let Job { hall, moves, dwell, .. } = match planned(case) {
             Some(job) if job.moves.len() > 1 => job,
             _ => return,
         };
@@ -84,6 +86,8 @@ impl Shared {
         self.more_than_nodes += usize::from(moves.len() > hall.nodes as usize);
         self.full += usize::from(moves.len() == 64);
         self.closed += usize::from(!hall.closed.is_empty());
+        self.dwelling += usize::from(dwell > 0);
+        self.longest += usize::from(dwell == MOST_DWELL);
     }
 
     fn printed(&self) -> String {
@@ -91,7 +95,7 @@ impl Shared {
             "\naccepted plans of two carriers or more: {}; some two have one start in {}, one goal \
              in {}, both in {}; no end is shared in {}\
              \nof them with more carriers than nodes: {}, with 64 carriers: {}, with closed \
-             nodes: {}",
+             nodes: {}, with a dwell: {}, with a dwell of 255: {}",
             self.plans,
             self.start,
             self.goal,
@@ -99,7 +103,9 @@ impl Shared {
             self.none,
             self.more_than_nodes,
             self.full,
-            self.closed
+            self.closed,
+            self.dwelling,
+            self.longest
         )
     }
 }

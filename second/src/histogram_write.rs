@@ -5,7 +5,6 @@
 use crate::answers::Answer;
 use crate::batch::Case;
 use crate::job::{Job, MOST_CARRIERS, MOST_LANES};
-use crate::lent::{job_of, job_of_lists};
 use crate::rule::Distances;
 use crate::text;
 
@@ -21,8 +20,9 @@ pub struct Written {
     /// Some carrier has no walk, or the moves are a list of odd length.
     no_walk: usize,
     odd: usize,
-    /// Some node is closed.
+    /// Some node is closed, or carriers wait on their goals.
     closed: usize,
+    dwelling: usize,
     /// As many lanes or as many carriers as there may be.
     full: usize,
 }
@@ -31,12 +31,8 @@ pub struct Written {
 fn to_write(case: &Case) -> Option<(Option<Job>, bool)> {
     match case {
         Case::WriteText { text, .. } => Some((text::read(text).ok(), false)),
-        Case::WriteNumbers { hall, moves, order, .. } => {
-            Some((Some(job_of_lists(hall, moves, order)), moves.len() % 2 == 1))
-        }
-        Case::WriteRecords { job, .. } => {
-            Some((Some(job_of(&job.hall, &job.records, &job.order)), false))
-        }
+        Case::WriteNumbers { job, .. } => Some((Some(job.job()), job.moves.len() % 2 == 1)),
+        Case::WriteRecords { job, .. } => Some((Some(job.job()), false)),
         _ => None,
     }
 }
@@ -62,6 +58,7 @@ impl Written {
         self.no_walk += usize::from(Distances::of(&job).own().is_err());
         self.odd += usize::from(odd);
         self.closed += usize::from(!job.hall.closed.is_empty());
+        self.dwelling += usize::from(job.dwell > 0);
         let full =
             job.hall.lane_numbers.len() == 2 * MOST_LANES || job.moves.len() == MOST_CARRIERS;
         self.full += usize::from(full);
@@ -71,7 +68,7 @@ impl Written {
         format!(
             "\ncases of writing: {}; written {}, with texts of {} to {} bytes; refused {}\
              \nof the written jobs {} have a carrier without a walk, {} an odd list of moves, \
-             {} closed nodes, {} 4,096 lanes or 64 carriers",
+             {} closed nodes, {} a dwell, {} 4,096 lanes or 64 carriers",
             self.cases,
             self.written,
             self.least,
@@ -80,6 +77,7 @@ impl Written {
             self.no_walk,
             self.odd,
             self.closed,
+            self.dwelling,
             self.full
         )
     }

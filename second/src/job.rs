@@ -10,6 +10,7 @@ pub const MOST_NODES: u32 = 1024;
 pub const MOST_LANES: usize = 4096;
 pub const MOST_CLOSED: usize = 1024;
 pub const MOST_CARRIERS: usize = 64;
+pub const MOST_DWELL: u32 = 255;
 
 /// A refusal: its number in the rules, and the line (of a text) or the place (from
 /// numbers) that goes with it.
@@ -43,6 +44,8 @@ pub struct Job {
     pub moves: Vec<Move>,
     /// Carrier numbers by place.
     pub order: Vec<u16>,
+    /// For how many ticks behind its goal tick each carrier stands on its goal.
+    pub dwell: u32,
 }
 
 /// Check 2 for a count of nodes.
@@ -77,6 +80,11 @@ pub fn move_fault(nodes: u32, closed: &[u16], asked: Move) -> Option<u8> {
         return Some(13);
     }
     None
+}
+
+/// Check 2 for a dwell. None at all is a dwell of 0.
+pub fn dwell_is_too_long(dwell: u32) -> bool {
+    dwell > MOST_DWELL
 }
 
 /// Check 7 for one order entry and the entries before it.
@@ -146,7 +154,7 @@ impl Hall {
 
 impl Job {
     /// Checks 2, 3, 12, then 4, 5 and 13 move by move, then 7, from numbers: all
-    /// counts come before all entries.
+    /// counts and the dwell come before all entries.
     pub fn check(&self) -> Result<(), Refusal> {
         self.hall.check_counts()?;
         if self.moves.len() > MOST_CARRIERS {
@@ -154,6 +162,9 @@ impl Job {
         }
         if self.order.len() != self.moves.len() {
             return refuse(2, 3);
+        }
+        if dwell_is_too_long(self.dwell) {
+            return refuse(2, 5);
         }
         self.hall.check_lanes()?;
         self.hall.check_closed()?;

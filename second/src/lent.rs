@@ -6,9 +6,8 @@
 // lengths, what is filled and what stays. Reading, planning and writing have
 // files of their own; printing and paths are here.
 
-use crate::job::{
-    refuse, Hall, Job, Move, Refusal, MOST_CARRIERS, MOST_CLOSED, MOST_LANES, MOST_NODES,
-};
+use crate::job::{refuse, Hall, Move, Refusal, MOST_CARRIERS, MOST_CLOSED, MOST_LANES, MOST_NODES};
+use crate::lent_jobs::{Record, Recorded};
 use crate::paths::{choose, house_path_of_carrier, house_path_of_move, judge_for_carrier, Choice};
 
 pub const MARK: u32 = 7777;
@@ -38,14 +37,6 @@ pub const LEAST_TABLE: usize = 3 * BLOCK;
 pub const LEAST_TIMES: usize = MOST_CARRIERS;
 pub const LEAST_PATH: usize = MOST_NODES as usize;
 pub const LEAST_BYTES: usize = 2048;
-
-/// What a record brings along; its distance and its tick are not looked at.
-#[derive(Clone, Copy)]
-pub struct Record {
-    pub asked: Move,
-    pub distance: u16,
-    pub tick: u32,
-}
 
 /// The line that tells the answer, or the refusal, and all tables by name.
 pub struct Lent {
@@ -110,17 +101,6 @@ pub fn print_to(out: u16, printed: &str) -> Lent {
     Lent { said: Ok(format!("BYTES {}", count)), tables: vec![("out", bytes)] }
 }
 
-pub fn job_of(hall: &Hall, records: &[Record], order: &[u16]) -> Job {
-    let moves = records.iter().map(|record| record.asked).collect();
-    Job { hall: hall.clone(), moves, order: order.to_vec() }
-}
-
-/// The job of lists: an odd last number of the moves is in no move.
-pub fn job_of_lists(hall: &Hall, moves: &[u16], order: &[u16]) -> Job {
-    let moves = moves.chunks_exact(2).map(|two| Move { start: two[0], goal: two[1] }).collect();
-    Job { hall: hall.clone(), moves, order: order.to_vec() }
-}
-
 /// The list of a house path, after the path or the refusal.
 fn housed(path: u16, asked: impl Fn() -> Result<Vec<u16>, Refusal>) -> Lent {
     let nodes = if usize::from(path) < LEAST_PATH { refuse(9, 0) } else { asked() };
@@ -133,16 +113,10 @@ fn housed(path: u16, asked: impl Fn() -> Result<Vec<u16>, Refusal>) -> Lent {
     Lent { said, tables: vec![("path", table)] }
 }
 
-pub fn house_of_records(
-    path: u16,
-    carrier: u16,
-    hall: &Hall,
-    records: &[Record],
-    order: &[u16],
-) -> Lent {
-    let job = job_of(hall, records, order);
+pub fn house_of_records(path: u16, carrier: u16, recorded: &Recorded) -> Lent {
+    let job = recorded.job();
     let mut lent = housed(path, || house_path_of_carrier(&job, carrier));
-    lent.tables.extend(Columns::of(records).named());
+    lent.tables.extend(Columns::of(&recorded.records).named());
     lent
 }
 
@@ -150,16 +124,9 @@ pub fn house_of_move(path: u16, asked: Move, hall: &Hall) -> Lent {
     housed(path, || house_path_of_move(hall, asked))
 }
 
-pub fn judge_of_records(
-    carrier: u16,
-    list: &[u16],
-    hall: &Hall,
-    records: &[Record],
-    order: &[u16],
-) -> Lent {
-    let job = job_of(hall, records, order);
-    let said = judge_for_carrier(&job, carrier, list).map(|()| "PASSED".to_string());
-    Lent { said, tables: Columns::of(records).named() }
+pub fn judge_of_records(carrier: u16, list: &[u16], recorded: &Recorded) -> Lent {
+    let said = judge_for_carrier(&recorded.job(), carrier, list).map(|()| "PASSED".to_string());
+    Lent { said, tables: Columns::of(&recorded.records).named() }
 }
 
 /// The choice with a network and a move, and how long the chosen list is.

@@ -3,12 +3,13 @@
 // each number. What lies past a least length must keep its mark, so most lent
 // tables are longer than they need to be. Reading has a file of its own.
 
-use crate::batch::{Case, Recorded};
+use crate::batch::Case;
 use crate::damage_numbers::{damaged_job, HALL_DAMAGES, JOB_DAMAGES};
 use crate::dice::Dice;
 use crate::halls::{ample_job, any_hall, any_job, grid, job_apart, job_over, line, parted_job};
 use crate::job::{Hall, Job, Move};
-use crate::lent::{Record, MARK};
+use crate::lent::MARK;
+use crate::lent_jobs::{Listed, Record, Recorded};
 use crate::lent_lengths::{
     least, length_rows, some_lengths, BYTES, FOR_MOVES, FOR_RECORDS, PATH, TABLE, TIMES,
 };
@@ -24,11 +25,7 @@ pub fn recorded(dice: &mut Dice, job: &Job) -> Recorded {
         tick: dice.pick(&[0, 1, MARK, 65_536, u32::MAX]),
     };
     let records = job.moves.iter().map(record).collect();
-    Recorded { hall: job.hall.clone(), records, order: job.order.clone() }
-}
-
-pub fn moves_of(job: &Job) -> Vec<u16> {
-    job.moves.iter().flat_map(|asked| [asked.start, asked.goal]).collect()
+    Recorded { hall: job.hall.clone(), records, order: job.order.clone(), dwell: job.dwell }
 }
 
 /// Jobs from numbers: those of the rules, full ones, one for each damage, and
@@ -37,6 +34,7 @@ fn jobs(dice: &mut Dice) -> Vec<Job> {
     let mut jobs: Vec<Job> = page::cases().into_iter().map(|(_, job, _)| job).collect();
     jobs.extend(page::shared_cases().into_iter().map(|(job, _, _)| job));
     jobs.extend([page::printed_job_reversed(), page::plates_taken_up(), page::plates_in_place()]);
+    jobs.extend([1, 255, 256].map(|dwell| page::dwelling(dwell, page::printed_job())));
     jobs.push(job_apart(dice, grid(256, 16), 64, true));
     jobs.push(job_over(dice, line(1024), 5, true));
     for damage in HALL_DAMAGES {
@@ -64,8 +62,7 @@ fn job_cases(dice: &mut Dice) -> Vec<Case> {
             cases.push(Case::PlanRecords { table, job: recorded(dice, job) });
         }
         for lent in length_rows([TABLE, TIMES, TIMES]) {
-            let (hall, order) = (job.hall.clone(), job.order.clone());
-            cases.push(Case::PlanLists { lent, hall, moves: moves_of(job), order });
+            cases.push(Case::PlanLists { lent, job: Listed::of(job) });
         }
         for [path] in length_rows([PATH]) {
             let carrier = dice.pick(&[0, most / 2, most.max(1) - 1, most, 64, 65_535]);
@@ -80,19 +77,13 @@ fn job_cases(dice: &mut Dice) -> Vec<Case> {
         cases.push(Case::PathLent { path, asked, hall: job.hall.clone() });
         cases.push(choice_case(dice, &job.hall, asked));
     }
-    let mut odd = page::printed_job();
-    odd.hall.lane_numbers.push(4);
-    let mut moves = moves_of(&page::printed_job());
-    moves.push(3);
-    let order = odd.order.clone();
+    // An odd list of moves is no fault, and an odd list of lanes is one.
+    let mut odd = Listed::of(&page::printed_job());
+    odd.moves.push(3);
     let lent = least([TABLE, TIMES, TIMES]);
-    cases.push(Case::PlanLists {
-        lent,
-        hall: odd.hall,
-        moves: moves.clone(),
-        order: order.clone(),
-    });
-    cases.push(Case::PlanLists { lent, hall: page::printed_job().hall, moves, order });
+    cases.push(Case::PlanLists { lent, job: odd.clone() });
+    odd.hall.lane_numbers.push(4);
+    cases.push(Case::PlanLists { lent, job: odd });
     cases
 }
 
@@ -164,11 +155,11 @@ pub fn random_lent(dice: &mut Dice, turn: usize, text: Vec<u8>) -> Case {
         }
         3 => {
             let lent = some_lengths(dice, [TABLE, TIMES, TIMES]);
-            let mut moves = moves_of(&job);
+            let mut job = Listed::of(&job);
             if dice.once_in(4) {
-                moves.push(dice.below(1024) as u16);
+                job.moves.push(dice.below(1024) as u16);
             }
-            Case::PlanLists { lent, hall: job.hall, moves, order: job.order }
+            Case::PlanLists { lent, job }
         }
         4 => {
             let [path] = some_lengths(dice, [PATH]);

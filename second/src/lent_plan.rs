@@ -3,11 +3,11 @@
 // own. After refusal 9 all is as it was. After any other refusal table and
 // lists are zero up to their least lengths, and records are as they came.
 
-use crate::job::{refuse, Hall, Job, Refusal, MOST_CARRIERS};
+use crate::job::{refuse, Job, Refusal, MOST_CARRIERS};
 use crate::lent::{
-    filled, job_of, job_of_lists, untouched, Columns, Lent, Record, BLOCK, LEAST_TABLE,
-    LEAST_TIMES, TABLE_PLACES, TIME_PLACES,
+    filled, untouched, Columns, Lent, BLOCK, LEAST_TABLE, LEAST_TIMES, TABLE_PLACES, TIME_PLACES,
 };
+use crate::lent_jobs::{Listed, Recorded};
 use crate::plan::{plan, Plan};
 use crate::rule::Distances;
 
@@ -60,10 +60,10 @@ fn times(numbers: &[i64]) -> Vec<u32> {
     numbers.iter().map(|&number| number as u32).collect()
 }
 
-pub fn records(table: u16, hall: &Hall, records: &[Record], order: &[u16]) -> Lent {
-    let job = job_of(hall, records, order);
+pub fn records(table: u16, recorded: &Recorded) -> Lent {
+    let job = recorded.job();
     let planned = planned_or_short(usize::from(table) >= LEAST_TABLE, &job);
-    let mut left = records.to_vec();
+    let mut left = recorded.records.clone();
     if let Ok(plan) = &planned {
         for (carrier, record) in left.iter_mut().enumerate() {
             record.distance = plan.distances[carrier] as u16;
@@ -76,8 +76,8 @@ pub fn records(table: u16, hall: &Hall, records: &[Record], order: &[u16]) -> Le
     Lent { said: said_of_planning(&planned), tables }
 }
 
-pub fn lists(lent: [u16; 3], hall: &Hall, moves: &[u16], order: &[u16]) -> Lent {
-    let job = job_of_lists(hall, moves, order);
+pub fn lists(lent: [u16; 3], listed: &Listed) -> Lent {
+    let job = listed.job();
     let least = [LEAST_TABLE, LEAST_TIMES, LEAST_TIMES];
     let enough = lent.into_iter().zip(least).all(|(length, least)| usize::from(length) >= least);
     let planned = planned_or_short(enough, &job);

@@ -10,11 +10,11 @@ use crate::lent::{
 };
 use crate::text;
 
-/// What an accepted text is answered with: its counts.
+/// What an accepted text is answered with: its counts, and the dwell.
 pub fn counts(job: &Job) -> String {
     let hall = &job.hall;
     let (lanes, closed) = (hall.lane_numbers.len() / 2, hall.closed.len());
-    format!("READ {} {} {} {}", hall.nodes, lanes, closed, job.moves.len())
+    format!("READ {} {} {} {} {}", hall.nodes, lanes, closed, job.moves.len(), job.dwell)
 }
 
 /// A reading. The job is absent if a table was too short.

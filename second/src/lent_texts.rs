@@ -43,6 +43,7 @@ pub fn texts(dice: &mut Dice) -> Vec<Vec<u8>> {
         texts.push(PRINTED_JOB.replacen(spoiled.0, spoiled.1, 1).into_bytes());
     }
     texts.extend(texts_with_closed(dice));
+    texts.extend(texts_with_dwell());
     texts.push(Vec::new());
     texts
 }
@@ -71,6 +72,29 @@ fn texts_with_closed(dice: &mut Dice) -> Vec<Vec<u8>> {
         ("0\n1\n2\n", "0\n1\n1\n"),
     ] {
         texts.push(whole.replacen(spoiled.0, spoiled.1, 1).into_bytes());
+    }
+    texts
+}
+
+/// Texts with a dwell: short and long ones, in the longest text too, and refused
+/// in their last line or behind it.
+fn texts_with_dwell() -> Vec<Vec<u8>> {
+    let mut texts: Vec<Vec<u8>> =
+        page::dwell_cases().iter().map(|(job, _, _)| text::write(job)).collect();
+    texts.push(text::write(&page::dwelling(10, page::plates_taken_up())));
+    texts.push(text::write(&page::dwelling(99, page::goal_out_of_reach())));
+    texts.push(text::write(&page::dwelling(0, longest_job())));
+    for end in [
+        "DWELL 0\n",
+        "DWELL 256\n",
+        "DWELL 9999\n",
+        "DWELL 02\n",
+        "DWELL 2",
+        "DWELL 2\n\n",
+        "DWELL 2\nDWELL 2\n",
+        "DWELLS 2\n",
+    ] {
+        texts.push([PRINTED_JOB, end].concat().into_bytes());
     }
     texts
 }

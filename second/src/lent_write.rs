@@ -3,13 +3,14 @@
 // stands, and all bytes behind it as the other tables are, so that a byte too
 // many or one that was not cleared is found out.
 
-use crate::job::{Hall, Job};
-use crate::lent::{job_of, job_of_lists, Columns, Lent, Record, BYTE_MARK};
+use crate::job::Job;
+use crate::lent::{Columns, Lent, BYTE_MARK};
+use crate::lent_jobs::{Listed, Recorded};
 use crate::write::write;
 
 /// How many bytes the batch program has for a text. More are not lent; the
 /// generator stays below.
-pub const TEXT_PLACES: usize = 47_232;
+pub const TEXT_PLACES: usize = 47_242;
 
 fn written(out: u16, job: &Job) -> Lent {
     let mut bytes = vec![BYTE_MARK as u8; TEXT_PLACES];
@@ -26,13 +27,13 @@ fn written(out: u16, job: &Job) -> Lent {
 }
 
 /// Writing from numbers: an odd last number of the moves is in no move.
-pub fn numbers(out: u16, hall: &Hall, moves: &[u16], order: &[u16]) -> Lent {
-    written(out, &job_of_lists(hall, moves, order))
+pub fn numbers(out: u16, listed: &Listed) -> Lent {
+    written(out, &listed.job())
 }
 
 /// Writing from records, which come back as they were.
-pub fn records(out: u16, hall: &Hall, records: &[Record], order: &[u16]) -> Lent {
-    let mut lent = written(out, &job_of(hall, records, order));
-    lent.tables.extend(Columns::of(records).named());
+pub fn records(out: u16, recorded: &Recorded) -> Lent {
+    let mut lent = written(out, &recorded.job());
+    lent.tables.extend(Columns::of(&recorded.records).named());
     lent
 }

@@ -1,23 +1,25 @@
 // The limit-size jobs of the benchmark, by name: 1,024 nodes and 64 carriers
 // each, and no end is shared. In one of them 300 nodes are closed; its lanes are
-// those of the random one. A batch repeats one of them, so that its time is
-// that of planning and not of starting a program. Reading and writing are
-// measured on the longest text that is accepted, many times in each case.
+// those of the random one. In another carriers have the longest dwell; all else
+// is as in the line. A batch repeats one of them, so that its time is that of
+// planning and not of starting a program. Reading and writing are measured on
+// the longest text that is accepted, many times in each case.
 
 use crate::batch::Case;
 use crate::closing::with_closed;
 use crate::dice::Dice;
 use crate::halls::{grid, job_apart, line, renumbered, scattered, zigzag};
+use crate::job::MOST_DWELL;
 use crate::program_texts::longest_job;
 use crate::text;
 
-pub const NAMES: [&str; 6] = ["line", "grid", "random", "renumbered", "zigzag", "closed"];
+pub const NAMES: [&str; 7] = ["line", "grid", "random", "renumbered", "zigzag", "closed", "dwell"];
 
 /// A batch of `count` times the named job, or nothing for another name.
 pub fn batch(name: &str, count: usize) -> Option<Vec<Case>> {
     let mut dice = Dice::new(1);
     let hall = match name {
-        "line" => line(1024),
+        "line" | "dwell" => line(1024),
         "grid" => grid(1024, 32),
         "random" => scattered(&mut dice, 1024, 4096),
         "renumbered" => renumbered(&mut dice, &line(1024)),
@@ -28,7 +30,11 @@ pub fn batch(name: &str, count: usize) -> Option<Vec<Case>> {
         }
         _ => return None,
     };
-    let text = text::write(&job_apart(&mut dice, hall, 64, true));
+    let mut job = job_apart(&mut dice, hall, 64, true);
+    if name == "dwell" {
+        job.dwell = MOST_DWELL;
+    }
+    let text = text::write(&job);
     Some((0..count).map(|_| Case::Plan { text: text.clone() }).collect())
 }
 

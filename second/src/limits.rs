@@ -24,7 +24,7 @@ fn to_and_fro(hall: Hall, carriers: usize) -> Job {
         }
     };
     let moves = (0..carriers).map(one_move).collect();
-    Job { hall, moves, order: (0..carriers as u16).collect() }
+    Job { hall, moves, order: (0..carriers as u16).collect(), dwell: 0 }
 }
 
 /// Carriers that cross a ring to the opposite node, either way round, so that
@@ -33,7 +33,7 @@ fn across_a_ring(dice: &mut Dice) -> Job {
     let one_move = |carrier: u16| Move { start: 16 * carrier, goal: (16 * carrier + 512) % 1024 };
     let mut order: Vec<u16> = (0..64).collect();
     dice.shuffle(&mut order);
-    Job { hall: ring(1024), moves: (0..64).map(one_move).collect(), order }
+    Job { hall: ring(1024), moves: (0..64).map(one_move).collect(), order, dwell: 0 }
 }
 
 /// The 4,096 lanes whose lines are longest, so that the text is about as long
@@ -207,7 +207,7 @@ fn paths_at_the_limits(dice: &mut Dice) -> Vec<Case> {
     cases
 }
 
-/// Texts longer than 47,133 bytes, which no accepted text can be.
+/// Texts longer than 47,143 bytes, which no accepted text can be.
 fn long_texts(dice: &mut Dice) -> Vec<Case> {
     let full = text::write(&full_random(dice, 4096, 64));
     let small = text::write(&to_and_fro(line(5), 2));

@@ -7,7 +7,8 @@ use crate::closing::with_closed;
 use crate::dice::Dice;
 use crate::halls::{grid, job_apart, job_over, line, ring, scattered, star};
 use crate::job::{Hall, Job, Move};
-use crate::lent_cases::{list_for, moves_of, recorded};
+use crate::lent_cases::{list_for, recorded};
+use crate::lent_jobs::Listed;
 use crate::lent_lengths::{least, FOR_MOVES, FOR_RECORDS, TABLE, TIMES};
 use crate::network::Network;
 use crate::page;
@@ -116,8 +117,7 @@ fn paths(dice: &mut Dice) -> Vec<Case> {
         cases.push(Case::Choose { asked, own: unaware.clone(), spare: list, text });
         cases.push(Case::MoveNumbers { hall: job.hall.clone(), asked, list: unaware });
         let lent = least([TABLE, TIMES, TIMES]);
-        let (moves, order) = (moves_of(&job), job.order);
-        cases.push(Case::PlanLists { lent, hall: job.hall, moves, order });
+        cases.push(Case::PlanLists { lent, job: Listed::of(&job) });
     }
     cases
 }

@@ -9,7 +9,7 @@ use crate::shortest::{all_distances, all_paths, meets, Timed};
 
 /// Ticks in order, each the first that `permits` allows against all placed
 /// before. It is given the earlier and the later carrier and their ticks.
-fn first_ticks(job: &Job, permits: impl Fn(usize, usize, i64, i64) -> bool) -> Vec<i64> {
+pub fn first_ticks(job: &Job, permits: impl Fn(usize, usize, i64, i64) -> bool) -> Vec<i64> {
     let mut ticks = vec![0; job.moves.len()];
     for (place, &carrier) in job.order.iter().enumerate() {
         let later = usize::from(carrier);
@@ -29,17 +29,18 @@ fn first_ticks(job: &Job, permits: impl Fn(usize, usize, i64, i64) -> bool) -> V
 pub fn difference_reversed(job: &Job) -> Vec<i64> {
     let distances = Distances::of(job);
     first_ticks(job, |earlier, later, placed, tick| {
-        Pair::of(&distances, earlier, later).map_or(true, |pair| pair.permits(placed - tick))
+        Pair::of(&distances, job.dwell, earlier, later)
+            .map_or(true, |pair| pair.permits(placed - tick))
     })
 }
 
-/// The rule, but a carrier waits until no forbidden tick is left to come. No
+/// The rule, but a carrier is held back until no forbidden tick is left to come. No
 /// forbidden tick of a small job lies beyond the horizon.
 pub fn after_the_last(job: &Job) -> Vec<i64> {
     const HORIZON: i64 = 100;
     let distances = Distances::of(job);
     first_ticks(job, |earlier, later, placed, tick| {
-        let pair = Pair::of(&distances, earlier, later);
+        let pair = Pair::of(&distances, job.dwell, earlier, later);
         let permits = |tick: i64| pair.map_or(true, |pair| pair.permits(tick - placed));
         (tick..HORIZON).all(permits)
     })
@@ -47,12 +48,12 @@ pub fn after_the_last(job: &Job) -> Vec<i64> {
 
 /// No rule, but all shortest paths are tried, for meetings and not crossings.
 pub fn meetings_only(job: &Job) -> Vec<i64> {
-    let table = all_distances(&job.hall);
+    let (table, dwell) = (all_distances(&job.hall), i64::from(job.dwell));
     first_ticks(job, |earlier, later, placed, tick| {
         let rivals = all_paths(&table, job.moves[later]);
         all_paths(&table, job.moves[earlier]).iter().all(|path| {
-            let one = Timed { path, tick: placed };
-            rivals.iter().all(|rival| !meets(one, Timed { path: rival, tick }))
+            let one = Timed { path, tick: placed, dwell };
+            rivals.iter().all(|rival| !meets(one, Timed { path: rival, tick, dwell }))
         })
     })
 }
@@ -61,7 +62,7 @@ pub fn meetings_only(job: &Job) -> Vec<i64> {
 pub fn parity_dropped(job: &Job) -> Vec<i64> {
     let distances = Distances::of(job);
     first_ticks(job, |earlier, later, placed, tick| {
-        Pair::of(&distances, earlier, later).map_or(true, |mut pair| {
+        Pair::of(&distances, job.dwell, earlier, later).map_or(true, |mut pair| {
             // A gap below 0 forbids the same stretch and knows no exception.
             if pair.gap == 0 {
                 pair.gap = -1;
@@ -84,7 +85,8 @@ pub fn no_walk_as_distance(job: &Job) -> Vec<i64> {
         }
     }
     first_ticks(job, |earlier, later, placed, tick| {
-        Pair::of(&distances, earlier, later).map_or(true, |pair| pair.permits(tick - placed))
+        Pair::of(&distances, job.dwell, earlier, later)
+            .map_or(true, |pair| pair.permits(tick - placed))
     })
 }
 
@@ -95,6 +97,7 @@ pub fn zero_as_no_walk(job: &Job) -> Vec<i64> {
     let distances = Distances::of(job);
     first_ticks(job, |earlier, later, placed, tick| {
         distances.start_to_start[earlier][later] == Some(0)
-            || Pair::of(&distances, earlier, later).map_or(true, |pair| pair.permits(tick - placed))
+            || Pair::of(&distances, job.dwell, earlier, later)
+                .map_or(true, |pair| pair.permits(tick - placed))
     })
 }

@@ -3,9 +3,8 @@
 // puts it and one that takes it, and a payload that ends within a part is an
 // error.
 
-use crate::batch::Recorded;
 use crate::job::{Hall, Job, Move};
-use crate::lent::Record;
+use crate::lent_jobs::{Listed, Record, Recorded};
 
 pub fn put_short(out: &mut Vec<u8>, number: u16) {
     out.extend(number.to_le_bytes());
@@ -37,6 +36,22 @@ pub fn put_hall(out: &mut Vec<u8>, hall: &Hall) {
     put_list(out, &hall.closed);
 }
 
+pub fn put_job(out: &mut Vec<u8>, job: &Job) {
+    put_hall(out, &job.hall);
+    put_long(out, job.moves.len());
+    job.moves.iter().for_each(|&asked| put_move(out, asked));
+    put_long(out, job.order.len());
+    put_shorts(out, &job.order);
+    put_long(out, job.dwell as usize);
+}
+
+pub fn put_listed(out: &mut Vec<u8>, job: &Listed) {
+    put_hall(out, &job.hall);
+    put_list(out, &job.moves);
+    put_list(out, &job.order);
+    put_long(out, job.dwell as usize);
+}
+
 pub fn put_recorded(out: &mut Vec<u8>, job: &Recorded) {
     put_hall(out, &job.hall);
     put_short(out, job.records.len() as u16);
@@ -46,6 +61,7 @@ pub fn put_recorded(out: &mut Vec<u8>, job: &Recorded) {
         out.extend(record.tick.to_le_bytes());
     }
     put_list(out, &job.order);
+    put_long(out, job.dwell as usize);
 }
 
 /// What is left of a payload.
@@ -108,7 +124,16 @@ impl<'a> Rest<'a> {
             moves.push(self.one_move()?);
         }
         let places = self.long()?;
-        Ok(Job { hall, moves, order: self.shorts(places as usize)? })
+        Ok(Job { hall, moves, order: self.shorts(places as usize)?, dwell: self.long()? })
+    }
+
+    pub fn listed(&mut self) -> Result<Listed, String> {
+        Ok(Listed {
+            hall: self.hall()?,
+            moves: self.list()?,
+            order: self.list()?,
+            dwell: self.long()?,
+        })
     }
 
     pub fn recorded(&mut self) -> Result<Recorded, String> {
@@ -118,7 +143,7 @@ impl<'a> Rest<'a> {
             let asked = self.one_move()?;
             records.push(Record { asked, distance: self.short()?, tick: self.long()? });
         }
-        Ok(Recorded { hall, records, order: self.list()? })
+        Ok(Recorded { hall, records, order: self.list()?, dwell: self.long()? })
     }
 
     /// The job text is whatever the payload still holds.

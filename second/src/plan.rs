@@ -34,7 +34,7 @@ pub fn plan(job: &Job) -> Result<Plan, Refusal> {
         let mut placed = Vec::new();
         for &other in &job.order[..place] {
             let earlier = usize::from(other);
-            if let Some(pair) = Pair::of(&distances, earlier, later) {
+            if let Some(pair) = Pair::of(&distances, job.dwell, earlier, later) {
                 placed.push((ticks[earlier], pair));
             }
         }

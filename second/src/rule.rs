@@ -1,5 +1,6 @@
-// The safe-delay rule for a pair of carriers, as page 01 states it, in signed
-// 64-bit numbers, and the distances between starts and goals that it needs.
+// The safe-delay rule for a pair of carriers (section 4 of the rules), one for
+// all dwells, in signed 64-bit numbers, and the distances between starts and
+// goals that it needs.
 // The rule is a test of one difference of ticks. It hands out no stretches,
 // so that nothing about free ticks between them can go wrong here.
 
@@ -51,20 +52,21 @@ impl Distances {
     }
 }
 
-/// What the rule takes from a pair whose starts a walk joins.
+/// What the rule takes from a pair whose starts a walk joins, and the dwell.
 #[derive(Clone, Copy)]
 pub struct Pair {
     pub between_starts: i64,
     pub lead_of_earlier: i64,
     pub lead_of_later: i64,
     pub gap: i64,
+    pub dwell: i64,
 }
 
 impl Pair {
     /// The pair of an earlier and a later carrier. `None` stands for a pair
     /// whose starts no walk joins. Both carriers reach their goals, so a walk
     /// between the starts makes every other distance exist too.
-    pub fn of(distances: &Distances, earlier: usize, later: usize) -> Option<Pair> {
+    pub fn of(distances: &Distances, dwell: u32, earlier: usize, later: usize) -> Option<Pair> {
         let between_starts = distances.start_to_start[earlier][later]?;
         let between_goals = distances.goal_to_goal[earlier][later]?;
         let own_of_earlier = distances.start_to_goal[earlier][earlier]?;
@@ -74,21 +76,24 @@ impl Pair {
             lead_of_earlier: own_of_earlier - distances.start_to_goal[later][earlier]?,
             lead_of_later: own_of_later - distances.start_to_goal[earlier][later]?,
             gap: between_starts + between_goals - own_of_earlier - own_of_later,
+            dwell: dwell.into(),
         })
     }
 
     /// Whether the later carrier may start `difference` ticks after the
-    /// earlier one. Below zero it starts before it.
+    /// earlier one. Below zero it starts before it. A stretch that is empty
+    /// without a dwell may hold some difference once the dwell has widened it,
+    /// so its ends are compared with the difference and not with each other.
     pub fn permits(&self, difference: i64) -> bool {
         if self.gap > 0 {
             return true;
         }
-        let lower = -self.lead_of_later;
-        let upper = self.lead_of_earlier;
+        let lower = -self.lead_of_later - self.dwell;
+        let upper = self.lead_of_earlier + self.dwell;
         let inside = lower <= difference && difference <= upper;
         let at_an_end = difference == lower || difference == upper;
         let odd = (difference - self.between_starts).rem_euclid(2) == 1;
-        let excepted = self.gap == 0 && at_an_end && odd;
+        let excepted = self.dwell == 0 && self.gap == 0 && at_an_end && odd;
         !inside || excepted
     }
 }

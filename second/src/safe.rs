@@ -1,15 +1,16 @@
 // The check of plans of small halls against what the rules want of them, not
 // against the way in which they were found. It takes the ticks from the print.
-// Every choice of shortest paths of each pair of carriers is tried; where a
-// pair has too many, it counts as skipped and is judged from distances alone.
-// Forbidden differences are worked out as stretches here, not tick by tick.
-// No path may stand on a closed node. What holds of carriers that share an end
-// is checked in halls of any size.
+// Every choice of shortest paths of each pair of carriers is tried, with
+// carriers that wait on their goals for the dwell; where a pair has too many, it
+// counts as skipped and is judged from distances alone. No path may stand on a
+// closed node. The limits of ticks, the bound by the last ticks before, and what
+// holds of carriers that share an end are checked in halls of any size.
 
 use crate::answers::answer_to_text;
 use crate::batch::Case;
 use crate::job::Job;
 use crate::safe_print::{check_print, read_print, Printed};
+use crate::safe_ticks::{check_bounds, check_shared_ends, check_ticks, Sharing};
 use crate::shortest::{
     all_distances, all_paths, count_paths, crosses, meets, some_choice_collides, AllDistances,
     Timed,
@@ -25,12 +26,12 @@ const MOST_PATH_PAIRS: u64 = 2_000;
 pub struct Tally {
     jobs: u64,
     pairs: u64,
-    /// Pairs with one start or one goal, and jobs of one start alone.
-    sharing: u64,
-    rows: u64,
-    /// Jobs with closed nodes among those whose paths are tried.
+    sharing: Sharing,
+    /// Jobs with closed nodes, and jobs with a dwell, among those whose paths are
+    /// tried.
     closed: u64,
-    /// Jobs in larger halls, of which only shared ends are checked.
+    dwelling: u64,
+    /// Jobs in larger halls, of which bounds and shared ends alone are checked.
     large: u64,
     tried: u64,
     skipped: u64,
@@ -40,17 +41,18 @@ pub struct Tally {
 impl Tally {
     pub fn printed(&self) -> String {
         format!(
-            "safe: {} jobs, {} of them with closed nodes, {} pairs of carriers, {} path pairs \
-             tried, {} skipped; in {} larger jobs shared ends alone; {} pairs share an end, {} \
-             jobs have one start; {} faults\n",
+            "safe: {} jobs, {} of them with closed nodes, {} with a dwell; {} pairs of carriers, \
+             {} path pairs tried, {} skipped; in {} larger jobs bounds and shared ends alone; {} \
+             pairs share an end, {} jobs have one start; {} faults\n",
             self.jobs,
             self.closed,
+            self.dwelling,
             self.pairs,
             self.tried,
             self.skipped,
             self.large,
-            self.sharing,
-            self.rows,
+            self.sharing.pairs,
+            self.sharing.rows,
             self.faults
         )
     }
@@ -61,95 +63,13 @@ impl Tally {
     }
 }
 
-/// The lowest and the highest forbidden difference of two carriers, if any is
-/// forbidden. With gap 0 an end of the wrong parity drops out of the stretch.
-fn forbidden(table: &AllDistances, job: &Job, earlier: usize, later: usize) -> Option<(i64, i64)> {
-    let (first, second) = (job.moves[earlier], job.moves[later]);
-    let distance = |from: u16, to: u16| table[usize::from(from)][usize::from(to)];
-    let between_starts = distance(first.start, second.start)?;
-    let between_goals = distance(first.goal, second.goal)?;
-    let (own_first, own_second) =
-        (distance(first.start, first.goal)?, distance(second.start, second.goal)?);
-    let gap = between_starts + between_goals - own_first - own_second;
-    let mut low = distance(first.start, second.goal)? - own_second;
-    let mut high = own_first - distance(second.start, first.goal)?;
-    if gap == 0 {
-        low += (low - between_starts).abs() % 2;
-        high -= (high - between_starts).abs() % 2;
-    }
-    if gap > 0 || low > high {
-        None
-    } else {
-        Some((low, high))
-    }
-}
-
-/// Carriers with one start have start ticks that differ, and carriers with one
-/// goal have goal ticks that differ. If all have one start, the carrier at
-/// place p starts at tick p.
-fn check_shared_ends(tally: &mut Tally, printed: &Printed, job: &Job) -> Result<(), &'static str> {
-    for (second, asked) in job.moves.iter().enumerate() {
-        for (first, other) in job.moves[..second].iter().enumerate() {
-            let ([start_tick, _, goal_tick], [other_start_tick, _, other_goal_tick]) =
-                (printed.records[second], printed.records[first]);
-            let (one_start, one_goal) = (asked.start == other.start, asked.goal == other.goal);
-            tally.sharing += u64::from(one_start || one_goal);
-            if one_start && start_tick == other_start_tick {
-                return Err("two carriers leave one start at one tick");
-            }
-            if one_goal && goal_tick == other_goal_tick {
-                return Err("two carriers reach one goal at one tick");
-            }
-        }
-    }
-    if job.moves.len() < 2 || job.moves.iter().any(|asked| asked.start != job.moves[0].start) {
-        return Ok(());
-    }
-    tally.rows += 1;
-    for (place, &carrier) in job.order.iter().enumerate() {
-        if printed.records[usize::from(carrier)][0] != place as i64 {
-            return Err("of carriers with one start one does not go at the tick of its place");
-        }
-    }
-    Ok(())
-}
-
-/// Each carrier has a permitted tick, no smaller one was permitted, and it is
-/// at most one tick after the latest goal tick before it in the order.
-fn check_ticks(printed: &Printed, table: &AllDistances, job: &Job) -> Result<(), &'static str> {
-    let mut latest_goal_tick = -1;
-    for (place, &carrier) in job.order.iter().enumerate() {
-        let later = usize::from(carrier);
-        let [tick, _, goal_tick] = printed.records[later];
-        if tick < 0 || tick > latest_goal_tick + 1 {
-            return Err("a tick is past the bound by the goal ticks before it");
-        }
-        let mut marked = vec![false; tick as usize + 1];
-        for &other in &job.order[..place] {
-            let earlier = usize::from(other);
-            if let Some((low, high)) = forbidden(table, job, earlier, later) {
-                let start = printed.records[earlier][0];
-                for bad in (start + low).max(0)..=(start + high).min(tick) {
-                    marked[bad as usize] = true;
-                }
-            }
-        }
-        match marked.iter().position(|&bad| !bad) {
-            None => return Err("a tick is forbidden"),
-            Some(first) if (first as i64) < tick => return Err("a smaller tick was permitted"),
-            Some(_) => {}
-        }
-        latest_goal_tick = latest_goal_tick.max(goal_tick);
-    }
-    Ok(())
-}
-
 /// How many choices of paths were tried, and whether some meets or crosses.
-fn try_all(one: (&[Vec<usize>], i64), other: (&[Vec<usize>], i64)) -> (u64, bool) {
+fn try_all(dwell: i64, one: (&[Vec<usize>], i64), other: (&[Vec<usize>], i64)) -> (u64, bool) {
     let (mut tried, mut collides) = (0, false);
     for path in one.0 {
         for rival in other.0 {
-            let (one, other) = (Timed { path, tick: one.1 }, Timed { path: rival, tick: other.1 });
+            let (one, other) =
+                (Timed { path, tick: one.1, dwell }, Timed { path: rival, tick: other.1, dwell });
             tried += 1;
             collides |= meets(one, other) || crosses(one, other);
         }
@@ -171,6 +91,7 @@ fn check_paths(tally: &mut Tally, case: usize, printed: &Printed, table: &AllDis
     if paths.iter().flatten().flatten().any(is_closed) {
         tally.fault(case, "a shortest path stands on a closed node");
     }
+    let dwell = i64::from(job.dwell);
     for second in 0..job.moves.len() {
         for first in 0..second {
             let (tick, other_tick) = (printed.records[first][0], printed.records[second][0]);
@@ -178,10 +99,10 @@ fn check_paths(tally: &mut Tally, case: usize, printed: &Printed, table: &AllDis
             let collides = if counts[first] * counts[second] > MOST_PATH_PAIRS {
                 tally.skipped += 1;
                 let (one, other) = (job.moves[first], job.moves[second]);
-                some_choice_collides(table, (one, tick), (other, other_tick))
+                some_choice_collides(table, dwell, (one, tick), (other, other_tick))
             } else {
                 let (tried, collides) =
-                    try_all((&paths[first], tick), (&paths[second], other_tick));
+                    try_all(dwell, (&paths[first], tick), (&paths[second], other_tick));
                 tally.tried += tried;
                 collides
             };
@@ -204,7 +125,9 @@ fn check_text(tally: &mut Tally, number: usize, source: &[u8]) {
         Some(printed) => printed,
         None => return tally.fault(number, "the print has not the form of a plan of the job"),
     };
-    if let Err(what) = check_shared_ends(tally, &printed, &job) {
+    let anywhere = check_bounds(&printed, &job)
+        .and_then(|()| check_shared_ends(&mut tally.sharing, &printed, &job));
+    if let Err(what) = anywhere {
         return tally.fault(number, what);
     }
     if job.hall.nodes > SMALL_HALL {
@@ -213,6 +136,7 @@ fn check_text(tally: &mut Tally, number: usize, source: &[u8]) {
     }
     tally.jobs += 1;
     tally.closed += u64::from(!job.hall.closed.is_empty());
+    tally.dwelling += u64::from(job.dwell > 0);
     let table = all_distances(&job.hall);
     let checked =
         check_print(&printed, &table, &job).and_then(|()| check_ticks(&printed, &table, &job));

@@ -11,6 +11,7 @@ use crate::page;
 use crate::plan::plan;
 use crate::rule::Pair;
 use crate::selftest_closed;
+use crate::selftest_dwell;
 use crate::selftest_lent;
 use crate::selftest_refusals;
 use crate::selftest_shared;
@@ -60,8 +61,9 @@ fn easy_errors(checks: &mut Checks) {
     checks.same("zero as no walk", mistakes::zero_as_no_walk(&page::train()), vec![0, 0, 0]);
 }
 
-/// Which of the differences -2 to 2 the rule forbids, by distance between the
-/// starts, lead of the earlier carrier, lead of the later one, and gap.
+/// Which of the differences -2 to 2 the rule forbids without a dwell, by distance
+/// between the starts, lead of the earlier carrier, lead of the later one, and
+/// gap.
 fn rule(checks: &mut Checks) {
     for (between_starts, lead_of_earlier, lead_of_later, gap, wanted) in [
         // Below gap 0 the stretch is forbidden with both its ends.
@@ -83,7 +85,7 @@ fn rule(checks: &mut Checks) {
         (1, -1, -1, -2, vec![]),
         (1, -1, 0, 0, vec![]),
     ] {
-        let pair = Pair { between_starts, lead_of_earlier, lead_of_later, gap };
+        let pair = Pair { between_starts, lead_of_earlier, lead_of_later, gap, dwell: 0 };
         let found: Vec<i64> = (-2..=2).filter(|&difference| !pair.permits(difference)).collect();
         let name = format!("{} {} {} {}", between_starts, lead_of_earlier, lead_of_later, gap);
         checks.same(&name, found, wanted);
@@ -132,6 +134,7 @@ pub fn run() -> (String, bool) {
     selftest_shared::run(&mut checks);
     selftest_write::run(&mut checks);
     selftest_closed::run(&mut checks);
+    selftest_dwell::run(&mut checks);
     let mut report = checks.failures.join("\n");
     if !report.is_empty() {
         report.push('\n');

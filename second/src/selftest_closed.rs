@@ -110,6 +110,7 @@ const CHANGES: &[(&str, fn(&mut Job), u8, usize)] = &[
     ("12, equal", |job| job.hall.closed[1] = 1, 12, 1),
     ("12, the first", |job| job.hall.closed[0] = 65_535, 12, 0),
     ("3", |job| job.hall.lane_numbers[32] = 11, 3, 16),
+    ("2 dwell", |job| job.dwell = 256, 2, 5),
     ("2 order", |job| job.order.truncate(1), 2, 3),
     ("2 carriers", |job| job.moves.resize(65, Move { start: 0, goal: 2 }), 2, 2),
     ("2 closed", |job| job.hall.closed = (0..1025).collect(), 2, 4),
@@ -130,10 +131,10 @@ fn refusals_of_numbers(checks: &mut Checks) {
         let written = write(&mut vec![1; LEAST_TEXT], &spoiled).map_err(|refusal| refusal.number);
         let refused = if *number == 8 { Ok(146) } else { Err(*number) };
         checks.same(&format!("writing, {}", name), written, refused);
-        let of_the_move = [3, 12].contains(number) || *number == 2 && ![2, 3].contains(at);
+        let of_the_move = [3, 12].contains(number) || *number == 2 && [0, 1, 4].contains(at);
         let alone = match (name, of_the_move) {
             (_, true) => wanted,
-            (&"2 order" | &"2 carriers", _) => Refusal { number: 3, at: 16 },
+            (&"2 dwell" | &"2 order" | &"2 carriers", _) => Refusal { number: 3, at: 16 },
             (&"7" | &"13 of a goal" | &"4 before it", _) => Refusal { number: 8, at: 0 },
             _ => Refusal { number: *number, at: 0 },
         };

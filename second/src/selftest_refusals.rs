@@ -82,8 +82,9 @@ pub fn refusals_of_texts(checks: &mut Checks) {
     checks.prints("a long text", &[b'7'; 3_000_000], "REFUSED 1 1\n");
 }
 
-/// From numbers all counts come before all entries. Each change is made on
-/// top of those before it in the list, so the check that comes first wins.
+/// From numbers all counts and the dwell come before all entries. Each change is
+/// made on top of those before it in the list, so the check that comes first
+/// wins.
 pub fn refusals_of_numbers(checks: &mut Checks) {
     let changes: &[(&str, fn(&mut Job), u8, usize)] = &[
         ("8", |job| job.hall.lane_numbers.truncate(6), 8, 0),
@@ -93,6 +94,7 @@ pub fn refusals_of_numbers(checks: &mut Checks) {
         ("5", |job| job.moves[1].goal = 4, 5, 1),
         ("4", |job| job.moves[0].start = 5, 4, 0),
         ("3", |job| job.hall.lane_numbers[4] = 0, 3, 2),
+        ("2 dwell", |job| job.dwell = 256, 2, 5),
         ("2 order", |job| job.order.truncate(1), 2, 3),
         ("2 order", |job| job.order.extend([1, 1, 7]), 2, 3),
         ("2 carriers", |job| job.moves.resize(65, Move { start: 9, goal: 9 }), 2, 2),

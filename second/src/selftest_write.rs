@@ -1,17 +1,17 @@
 // Writing a job as its text, by hand for page 01's printed job: the bytes, the
 // refusals with their places, and what is left in the lent bytes. Then the
 // writer is held to the reader both ways, over random jobs and over every
-// count of nodes, and to the generator's own texts.
+// count of nodes, and to the generator's own texts; and of texts that are too
+// long to be written, the beginning to the whole.
 
-use crate::answers::answers_to;
+use crate::answers::{answer_to_text, answers_to};
 use crate::batch::Case;
 use crate::dice::Dice;
 use crate::job::{refuse, Job, Move, Refusal};
-use crate::lent::Record;
-use crate::lent_cases::moves_of;
+use crate::lent_jobs::{Listed, Record, Recorded};
 use crate::lent_write;
 use crate::page;
-use crate::program_texts::longest_job;
+use crate::program_texts::{self, longest_job};
 use crate::selftest::Checks;
 use crate::systematic::PRINTED_JOB;
 use crate::text;
@@ -25,34 +25,39 @@ fn text_of(job: &Job) -> Result<Vec<u8>, Refusal> {
     Ok(bytes)
 }
 
-/// Page 01's job, and what behind its 69 bytes is left in 47,232 lent ones.
+/// Page 01's job, and what behind its 69 bytes is left in 47,242 lent ones.
 fn from_numbers(checks: &mut Checks) {
-    let job = page::printed_job();
-    let accepted = format!("BYTES 69\n{}out 47063x0 100x77\n", PRINTED_JOB);
-    let moves = moves_of(&job);
-    for out in [47_132, 47_133, 47_232] {
-        let found = lent_write::numbers(out, &job.hall, &moves, &job.order).printed();
-        checks.same("written", &found, &accepted);
+    let written = |out: u16, listed: &Listed| lent_write::numbers(out, listed).printed();
+    let sound = Listed::of(&page::printed_job());
+    let accepted = format!("BYTES 69\n{}out 47073x0 100x77\n", PRINTED_JOB);
+    for out in [47_142, 47_143, 47_242] {
+        checks.same("written", &written(out, &sound), &accepted);
     }
     for odd in [0, 4, 65_535] {
-        let moves = [&moves[..], &[odd]].concat();
-        let found = lent_write::numbers(47_132, &job.hall, &moves, &job.order).printed();
-        checks.same("written, odd moves", &found, &accepted);
+        let mut listed = sound.clone();
+        listed.moves.push(odd);
+        checks.same("written, odd moves", &written(47_142, &listed), &accepted);
     }
-    for out in [0, 1, 69, 42_000, 47_131] {
-        let found = lent_write::numbers(out, &job.hall, &moves, &[7]).printed();
-        checks.same("written, too few", found.as_str(), "REFUSED 9 0\nout 47232x77\n");
+    for (dwell, bytes, left) in [(1, 77, 47_065), (10, 78, 47_064), (255, 79, 47_063)] {
+        let found = written(47_142, &Listed { dwell, ..sound.clone() });
+        let text = format!("BYTES {}\n{}DWELL {}\n", bytes, PRINTED_JOB, dwell);
+        checks.same("written, a dwell", found, format!("{}out {}x0 100x77\n", text, left));
     }
-    let mut odd = job.hall.clone();
-    odd.lane_numbers.push(4);
-    let found = lent_write::numbers(47_232, &odd, &moves, &job.order).printed();
-    checks.same("written, odd lanes", found.as_str(), "REFUSED 2 1\nout 47132x0 100x77\n");
-    let found = lent_write::numbers(47_132, &job.hall, &moves, &[0, 1, 1]).printed();
-    checks.same("written, refused", found.as_str(), "REFUSED 7 2\nout 47132x0 100x77\n");
-    let lost = page::goal_out_of_reach();
-    let found = lent_write::numbers(47_132, &lost.hall, &moves_of(&lost), &lost.order).printed();
+    for out in [0, 1, 69, 42_000, 47_132, 47_141] {
+        let found = written(out, &Listed { order: vec![7], dwell: 256, ..sound.clone() });
+        checks.same("written, too few", found.as_str(), "REFUSED 9 0\nout 47242x77\n");
+    }
+    let refused = |told: &str| format!("REFUSED {}\nout 47142x0 100x77\n", told);
+    let mut odd = sound.clone();
+    odd.hall.lane_numbers.push(4);
+    checks.same("written, odd lanes", written(47_242, &odd), refused("2 1"));
+    let again = Listed { order: vec![0, 1, 1], ..sound };
+    checks.same("written, refused", written(47_142, &again), refused("7 2"));
+    let too_long = Listed { dwell: 256, ..again };
+    checks.same("written, a dwell too long", written(47_142, &too_long), refused("2 5"));
+    let found = written(47_142, &Listed::of(&page::goal_out_of_reach()));
     let text = "NODES 3\nLANES 1\n0 1\nCARRIERS 1\n0 2\nORDER 1\n0\n";
-    let wanted = format!("BYTES 45\n{}out 47087x0 100x77\n", text);
+    let wanted = format!("BYTES 45\n{}out 47097x0 100x77\n", text);
     checks.same("written without a walk", found, wanted);
 }
 
@@ -63,13 +68,16 @@ fn from_records(checks: &mut Checks) {
     let unchanged = "starts 1x0 1x4 1x2 77x7777\ngoals 1x4 1x0 1x1 77x7777\n\
         distances 3x9 77x7777\nticks 3x65536 77x7777\n";
     for (out, order, wanted) in [
-        (47_132, [2, 1, 0], "out 47063x0 100x77"),
-        (47_132, [2, 1, 3], "REFUSED 7 2\nout 47132x0 100x77"),
-        (47_131, [2, 1, 3], "REFUSED 9 0\nout 47232x77"),
+        (47_142, [2, 1, 0], "out 47063x0 100x77"),
+        (47_142, [2, 1, 3], "REFUSED 7 2\nout 47142x0 100x77"),
+        (47_141, [2, 1, 3], "REFUSED 9 0\nout 47242x77"),
     ] {
-        let found = lent_write::records(out, &job.hall, &records, &order).printed();
-        let text = PRINTED_JOB.replace("0\n1\n2\n", "2\n1\n0\n");
-        let written = if order[2] == 0 { format!("BYTES 69\n{}", text) } else { String::new() };
+        let (hall, records, order) = (job.hall.clone(), records.clone(), order.to_vec());
+        let is_sound = order[2] == 0;
+        let recorded = Recorded { hall, records, order, dwell: 200 };
+        let found = lent_write::records(out, &recorded).printed();
+        let text = PRINTED_JOB.replace("0\n1\n2\n", "2\n1\n0\nDWELL 200\n");
+        let written = if is_sound { format!("BYTES 79\n{}", text) } else { String::new() };
         checks.same("records", found, format!("{}{}\n{}", written, wanted, unchanged));
     }
 }
@@ -85,6 +93,7 @@ fn refusals(checks: &mut Checks) {
         ("3, no node", |job| job.hall.lane_numbers[7] = 5, 3, 3),
         ("3, one node", |job| job.hall.lane_numbers[4] = 3, 3, 2),
         ("3, again", |job| job.hall.lane_numbers.copy_within(0..2, 2), 3, 1),
+        ("2 dwell", |job| job.dwell = 256, 2, 5),
         ("2 order", |job| job.order.truncate(2), 2, 3),
         ("2 carriers", |job| job.moves.resize(65, Move { start: 0, goal: 1 }), 2, 2),
         ("2 odd lanes", |job| job.hall.lane_numbers.truncate(7), 2, 1),
@@ -120,8 +129,11 @@ fn round_trips(checks: &mut Checks) {
         text_of(&page::job(page::hall(nodes, &[]), &[])) == Ok(text.into_bytes())
     };
     checks.same("every count of nodes", (1..=1024).filter(|&nodes| counted(nodes)).count(), 1024);
-    checks.same("the longest text", text_of(&longest_job()).map(|text| text.len()), Ok(42_017));
+    checks.same("the longest text", text_of(&longest_job()).map(|text| text.len()), Ok(42_027));
 }
+
+/// A text with a dwell and no carriers.
+const DWELLING: &str = "NODES 1\nLANES 0\nCARRIERS 0\nORDER 0\nDWELL 100\n";
 
 /// The kind that reads a text and writes it again.
 fn texts(checks: &mut Checks) {
@@ -134,10 +146,21 @@ fn texts(checks: &mut Checks) {
         (1, 0, &PRINTED_JOB[..68], "REFUSED 1 14\n"),
         (0, 1, "NODES 05\n", "REFUSED 1 1\n"),
         (0, 0, "NODES 1\nLANES 0\nCARRIERS 0\nORDER 1\n", "REFUSED 2 4\n"),
+        (2, 3, DWELLING, DWELLING),
     ] {
         let case = Case::WriteText { readings, writings, text: text.as_bytes().to_vec() };
         let found: String = answers_to(&case).iter().map(|answer| answer.printed()).collect();
         checks.same("read and written", found.as_str(), wanted);
+    }
+}
+
+/// Of a text that is longer than the bound by more than a byte, so many bytes
+/// alone have the answer of the whole.
+fn long_texts(checks: &mut Checks) {
+    let long = program_texts::texts().into_iter().filter(|text| text.len() > LEAST_TEXT + 1);
+    for text in long {
+        let whole = answer_to_text(&text).printed();
+        checks.prints("the beginning of a long text", &text[..LEAST_TEXT + 1], &whole);
     }
 }
 
@@ -147,4 +170,5 @@ pub fn run(checks: &mut Checks) {
     from_records(checks);
     refusals(checks);
     round_trips(checks);
+    long_texts(checks);
 }

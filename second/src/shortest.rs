@@ -91,48 +91,69 @@ pub fn all_paths(table: &AllDistances, asked: Move) -> Vec<Vec<usize>> {
     finished
 }
 
-/// A path and the tick at which its carrier stands on the first node.
+/// A path, the tick at which its carrier stands on the first node, and for how
+/// many ticks more than one it stands on the last.
 #[derive(Clone, Copy)]
 pub struct Timed<'a> {
     pub path: &'a [usize],
     pub tick: i64,
+    pub dwell: i64,
 }
 
 impl Timed<'_> {
-    /// The node at a tick; before the start and after the goal there is none.
-    fn node_at(&self, tick: i64) -> Option<usize> {
-        if tick < self.tick {
-            return None;
-        }
-        self.path.get((tick - self.tick) as usize).copied()
+    /// The node at a tick at which the carrier is on the floor.
+    fn node_at(&self, tick: i64) -> usize {
+        let steps = (tick - self.tick) as usize;
+        self.path[steps.min(self.path.len() - 1)]
     }
 
     fn last_tick(&self) -> i64 {
-        self.tick + self.path.len() as i64 - 1
+        self.tick + self.path.len() as i64 - 1 + self.dwell
     }
+}
+
+/// The first and the last tick at which both carriers are on the floor. If the
+/// last lies before the first, there is none.
+fn together(one: Timed, other: Timed) -> (i64, i64) {
+    (one.tick.max(other.tick), one.last_tick().min(other.last_tick()))
 }
 
 /// One node at one tick.
 pub fn meets(one: Timed, other: Timed) -> bool {
-    (one.tick..=one.last_tick()).any(|tick| one.node_at(tick) == other.node_at(tick))
+    let (first, last) = together(one, other);
+    (first..=last).any(|tick| one.node_at(tick) == other.node_at(tick))
 }
 
-/// Nodes exchanged between two consecutive ticks.
+/// Two different nodes exchanged between two consecutive ticks.
 pub fn crosses(one: Timed, other: Timed) -> bool {
-    (one.tick..one.last_tick()).any(|tick| {
-        one.node_at(tick) == other.node_at(tick + 1) && one.node_at(tick + 1) == other.node_at(tick)
+    let (first, last) = together(one, other);
+    (first..last).any(|tick| {
+        let (from, to) = (one.node_at(tick), one.node_at(tick + 1));
+        from != to && other.node_at(tick) == to && other.node_at(tick + 1) == from
     })
 }
 
 /// Whether some choice of shortest paths of two moves meets or crosses, told
 /// from distances alone: a node lies on a shortest path exactly if the ways to
 /// it and from it add up to the move's distance, and each carrier chooses
-/// freely, so each node and each lane can be judged by itself.
-pub fn some_choice_collides(table: &AllDistances, one: (Move, i64), other: (Move, i64)) -> bool {
+/// freely, so each node and each lane can be judged by itself. On its goal each
+/// stays for the dwell, and from there it goes nowhere.
+pub fn some_choice_collides(
+    table: &AllDistances,
+    dwell: i64,
+    one: (Move, i64),
+    other: (Move, i64),
+) -> bool {
     let (tick_at_one, tick_at_other) = (ticks_at_nodes(table, one), ticks_at_nodes(table, other));
+    let stays = |asked: Move, node: usize| if node == asked.goal.into() { dwell } else { 0 };
     let nodes = 0..table.len();
     nodes.clone().any(|node| {
-        let meeting = tick_at_one[node].is_some() && tick_at_one[node] == tick_at_other[node];
+        let meeting = match (tick_at_one[node], tick_at_other[node]) {
+            (Some(from), Some(other_from)) => {
+                from <= other_from + stays(other.0, node) && other_from <= from + stays(one.0, node)
+            }
+            _ => false,
+        };
         let crossing = nodes.clone().any(|next| {
             table[node][next] == Some(1)
                 && follows(tick_at_one[node], tick_at_one[next])
@@ -147,7 +168,7 @@ fn follows(tick: Option<i64>, next: Option<i64>) -> bool {
     tick.is_some() && tick.map(|tick| tick + 1) == next
 }
 
-/// For each node on some shortest path of a move, the tick of being there.
+/// For each node on some shortest path of a move, the first tick of being there.
 fn ticks_at_nodes(table: &AllDistances, timed: (Move, i64)) -> Vec<Option<i64>> {
     let (start, goal) = (usize::from(timed.0.start), usize::from(timed.0.goal));
     let on_a_path = |node: usize| {

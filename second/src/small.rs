@@ -4,6 +4,8 @@
 // refused, so nothing at this size is left to chance. All nodes are open here.
 // Then every three moves of which two share an end, in all networks of two or
 // three nodes and in the six shapes of four joined nodes: 10,432 texts.
+// All these pairs come again with a dwell of 1, 2 and 3, and the threes with a
+// dwell of 1: 61,627 texts.
 // Likewise every move with every list of up to three nodes in networks of up
 // to three, and every house path in all of them: 3,033 cases from numbers.
 
@@ -39,16 +41,17 @@ pub fn all_lists(nodes: u16, length: usize) -> Vec<Vec<u16>> {
     lists
 }
 
-/// The plan of carriers with these ends, a start and a goal by turns.
-fn plan_of(hall: &Hall, ends: &[u16]) -> Case {
+/// A job of carriers with these ends, a start and a goal by turns.
+fn job_of(hall: &Hall, dwell: u32, ends: &[u16]) -> Job {
     let moves: Vec<Move> =
         ends.chunks_exact(2).map(|two| Move { start: two[0], goal: two[1] }).collect();
     let order = (0..moves.len() as u16).collect();
-    Case::Plan { text: text::write(&Job { hall: hall.clone(), moves, order }) }
+    Job { hall: hall.clone(), moves, order, dwell }
 }
 
-fn pairs_in(hall: &Hall) -> Vec<Case> {
-    all_lists(hall.nodes as u16, 4).iter().map(|ends| plan_of(hall, ends)).collect()
+/// Every pair of moves in a hall.
+pub fn pairs_in(hall: &Hall, dwell: u32) -> Vec<Job> {
+    all_lists(hall.nodes as u16, 4).iter().map(|ends| job_of(hall, dwell, ends)).collect()
 }
 
 /// A line, a star, a ring, a triangle with a tail, a ring with one lane across
@@ -65,11 +68,26 @@ fn share_an_end(ends: &[u16]) -> bool {
     (0..6).any(|one| (0..one).any(|other| one % 2 == other % 2 && ends[one] == ends[other]))
 }
 
-fn threes_in(hall: &Hall) -> Vec<Case> {
+fn threes_in(hall: &Hall, dwell: u32) -> Vec<Job> {
     (all_lists(hall.nodes as u16, 6).iter())
         .filter(|ends| ends.chunks_exact(2).all(|two| two[0] != two[1]) && share_an_end(ends))
-        .map(|ends| plan_of(hall, ends))
+        .map(|ends| job_of(hall, dwell, ends))
         .collect()
+}
+
+fn all_pairs(dwell: u32) -> Vec<Job> {
+    all_small_halls().iter().flat_map(|hall| pairs_in(hall, dwell)).collect()
+}
+
+fn all_threes(dwell: u32) -> Vec<Job> {
+    let mut halls = all_small_halls();
+    halls.retain(|hall| hall.nodes <= 3);
+    halls.extend(joined_fours());
+    halls.iter().flat_map(|hall| threes_in(hall, dwell)).collect()
+}
+
+fn planned(jobs: Vec<Job>) -> impl Iterator<Item = Case> {
+    jobs.into_iter().map(|job| Case::Plan { text: text::write(&job) })
 }
 
 fn paths_in(hall: &Hall) -> Vec<Case> {
@@ -91,11 +109,12 @@ fn paths_in(hall: &Hall) -> Vec<Case> {
 }
 
 pub fn all_small_cases() -> Vec<Case> {
-    let halls = all_small_halls();
-    let up_to_three = halls.iter().filter(|hall| hall.nodes <= 3);
-    let mut cases: Vec<Case> = halls.iter().flat_map(pairs_in).collect();
-    cases.extend(up_to_three.flat_map(threes_in));
-    cases.extend(joined_fours().iter().flat_map(threes_in));
-    cases.extend(halls.iter().flat_map(paths_in));
+    let mut cases: Vec<Case> = planned(all_pairs(0)).collect();
+    cases.extend(planned(all_threes(0)));
+    cases.extend(all_small_halls().iter().flat_map(paths_in));
+    for dwell in 1..=3 {
+        cases.extend(planned(all_pairs(dwell)));
+    }
+    cases.extend(planned(all_threes(1)));
     cases
 }

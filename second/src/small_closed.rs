@@ -41,7 +41,8 @@ fn pairs_in(hall: &Hall) -> Vec<Job> {
     let mut jobs = Vec::new();
     for one in moves_in(hall) {
         for other in moves_in(hall) {
-            jobs.push(Job { hall: hall.clone(), moves: vec![one, other], order: vec![0, 1] });
+            let (moves, order) = (vec![one, other], vec![0, 1]);
+            jobs.push(Job { hall: hall.clone(), moves, order, dwell: 0 });
         }
     }
     jobs

@@ -4,11 +4,12 @@
 // Fields are what single spaces separate: two spaces in a row, or one at
 // either end, make an empty field, and an empty field is no number.
 // The section of closed nodes may be absent: the line behind the lanes opens
-// it or, if it does not, the carriers.
+// it or, if it does not, the carriers. The dwell may be absent too: the text
+// ends behind the order, or one more line stands there.
 // The last functions write a job's text, for the generator.
 
 use crate::job::{
-    closed_entry_is_faulty, lane_is_faulty, move_fault, nodes_are_out_of_range,
+    closed_entry_is_faulty, dwell_is_too_long, lane_is_faulty, move_fault, nodes_are_out_of_range,
     order_entry_is_faulty, refuse, Hall, Job, Move, Refusal, MOST_CARRIERS, MOST_CLOSED,
     MOST_LANES,
 };
@@ -49,8 +50,8 @@ impl<'a> Lines<'a> {
         }
     }
 
-    /// The word and the count on the next line, which opens a section with one
-    /// of these words.
+    /// The word and the number on the next line, which begins with one of these
+    /// words.
     fn heading(&mut self, words: &[&'static str]) -> Result<(&'static str, u16), Refusal> {
         let fields = self.fields()?;
         let found = words.iter().find(|word| fields[0] == word.as_bytes());
@@ -165,6 +166,19 @@ impl<'a> Lines<'a> {
         Ok(order)
     }
 
+    /// The dwell, 0 where the text has ended. A line that is there tells one of
+    /// 1 tick or more.
+    fn dwell(&mut self) -> Result<u32, Refusal> {
+        if self.rest.is_empty() {
+            return Ok(0);
+        }
+        let dwell = u32::from(self.count("DWELL")?);
+        if dwell == 0 || dwell_is_too_long(dwell) {
+            return self.refuse(2);
+        }
+        Ok(dwell)
+    }
+
     /// Bytes after the last line are a fault of form at the line they open.
     fn end(&mut self) -> Result<(), Refusal> {
         self.number += 1;
@@ -184,8 +198,9 @@ pub fn read(text: &[u8]) -> Result<Job, Refusal> {
     hall.closed = closed;
     let moves = lines.moves(&hall, carriers)?;
     let order = lines.order(moves.len())?;
+    let dwell = lines.dwell()?;
     lines.end()?;
-    Ok(Job { hall, moves, order })
+    Ok(Job { hall, moves, order, dwell })
 }
 
 /// How many lines the section of closed nodes has: none, or its heading and a
@@ -216,6 +231,9 @@ pub fn lines_of(job: &Job) -> Vec<Vec<u8>> {
     lines.extend(job.moves.iter().map(|asked| format!("{} {}", asked.start, asked.goal)));
     lines.push(format!("ORDER {}", job.order.len()));
     lines.extend(job.order.iter().map(|entry| entry.to_string()));
+    if job.dwell > 0 {
+        lines.push(format!("DWELL {}", job.dwell));
+    }
     lines.into_iter().map(String::into_bytes).collect()
 }
 

@@ -2,16 +2,19 @@
 // and at the limit of 1,024 nodes, in the order of the numbers and shuffled.
 // Then lifts and chutes that many carriers share in other ways: one lift into
 // many chutes, many lifts into one chute, two trains against each other, and
-// trains that cross. Each job comes as a text and from numbers.
+// trains that cross. Each job comes as a text and from numbers, and once more
+// with a dwell.
 
 use crate::batch::Case;
 use crate::dice::Dice;
 use crate::halls::{grid, hall_of, line, scattered, tree};
-use crate::job::{Hall, Job, Move};
+use crate::job::{Hall, Job, Move, MOST_DWELL};
 use crate::network::Network;
 use crate::text;
 
 const LENGTHS: [usize; 5] = [2, 3, 10, 63, 64];
+/// The dwells of trains, by turns.
+const DWELLS: [u32; 7] = [1, 2, 3, 10, 100, 254, 255];
 
 fn one_move(start: usize, goal: usize) -> Move {
     Move { start: start as u16, goal: goal as u16 }
@@ -20,7 +23,7 @@ fn one_move(start: usize, goal: usize) -> Move {
 /// A job in the order of the carrier numbers.
 fn in_turn(hall: &Hall, moves: Vec<Move>) -> Job {
     let order = (0..moves.len() as u16).collect();
-    Job { hall: hall.clone(), moves, order }
+    Job { hall: hall.clone(), moves, order, dwell: 0 }
 }
 
 fn shuffled(dice: &mut Dice, job: &Job) -> Job {
@@ -164,13 +167,24 @@ fn full_jobs(dice: &mut Dice) -> Vec<Job> {
     jobs
 }
 
+/// The jobs, each with one of the dwells.
+fn dwelling(jobs: &[Job]) -> Vec<Job> {
+    let dwells = DWELLS.into_iter().cycle();
+    jobs.iter().zip(dwells).map(|(job, dwell)| Job { dwell, ..job.clone() }).collect()
+}
+
 /// Small trains come both ways. At the limit the order of the numbers comes as
-/// a text, and a shuffled one from numbers.
+/// a text, and a shuffled one from numbers; with the longest dwell there too.
 pub fn train_cases(dice: &mut Dice) -> Vec<Case> {
-    let mut cases: Vec<Case> = small_jobs(dice).into_iter().flat_map(both_ways).collect();
-    for job in full_jobs(dice) {
-        cases.push(Case::Plan { text: text::write(&job) });
-        cases.push(Case::PlanNumbers { job: shuffled(dice, &job) });
+    let small = small_jobs(dice);
+    let mut cases: Vec<Case> = dwelling(&small).into_iter().flat_map(both_ways).collect();
+    cases.extend(small.into_iter().flat_map(both_ways));
+    for mut job in full_jobs(dice) {
+        for dwell in [0, MOST_DWELL] {
+            job.dwell = dwell;
+            cases.push(Case::Plan { text: text::write(&job) });
+            cases.push(Case::PlanNumbers { job: shuffled(dice, &job) });
+        }
     }
     cases
 }

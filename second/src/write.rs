@@ -9,7 +9,7 @@ use crate::text;
 
 /// The least length of the bytes that are lent for a text. No accepted job has
 /// a longer one.
-pub const LEAST_TEXT: usize = 47_132;
+pub const LEAST_TEXT: usize = 47_142;
 
 /// Lent bytes, written on from the front.
 struct Sheet<'a> {
@@ -77,12 +77,16 @@ pub fn write(lent: &mut [u8], job: &Job) -> Result<usize, Refusal> {
     job.moves.iter().for_each(|asked| sheet.pair(asked.start, asked.goal));
     sheet.heading("ORDER", job.order.len());
     job.order.iter().for_each(|&carrier| sheet.single(carrier));
+    if job.dwell > 0 {
+        sheet.heading("DWELL", job.dwell as usize);
+    }
     Ok(sheet.used)
 }
 
 /// How much a job holds, to be added up over many readings.
 fn size(job: &Job) -> usize {
-    job.hall.lane_numbers.len() + job.hall.closed.len() + job.moves.len() + job.order.len()
+    let entries = job.hall.lane_numbers.len() + job.hall.closed.len() + job.moves.len();
+    entries + job.order.len() + job.dwell as usize
 }
 
 /// The text of the job that a text holds. The text is read once and `readings`

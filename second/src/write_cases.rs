@@ -21,8 +21,9 @@ use crate::write_jobs::{
 };
 
 /// Lengths of the lent bytes: at the ends of what there is, on both sides of
-/// the least length, and some between.
-const LENGTHS: [usize; 15] = [
+/// the least length, that of the longest text, what would be the least without a
+/// dwell, and some between.
+const LENGTHS: [usize; 16] = [
     0,
     1,
     2,
@@ -31,7 +32,8 @@ const LENGTHS: [usize; 15] = [
     2048,
     20_000,
     42_000,
-    42_017,
+    42_027,
+    LEAST_TEXT - 10,
     LEAST_TEXT - 2,
     LEAST_TEXT - 1,
     LEAST_TEXT,

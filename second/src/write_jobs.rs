@@ -2,15 +2,15 @@
 // from numbers and from records. The sound jobs have numbers of one to four
 // digits in every field. Whether walks join the ends plays no part in writing,
 // so many of these jobs have carriers without a walk. About a third of the
-// random ones have closed nodes.
+// random ones have closed nodes, and about a third have a dwell.
 
-use crate::batch::{Case, Recorded};
+use crate::batch::Case;
 use crate::closing::close_free_at_times;
 use crate::dice::Dice;
+use crate::dwelling::dwelling_at_times;
 use crate::halls::{ample_job, any_job, hall_of, line, parted_job, two_parts};
-use crate::job::{Job, Move, MOST_CARRIERS, MOST_LANES};
-use crate::lent::Record;
-use crate::lent_cases::moves_of;
+use crate::job::{Job, Move, MOST_CARRIERS, MOST_DWELL, MOST_LANES};
+use crate::lent_jobs::{Listed, Record, Recorded};
 use crate::lent_write::TEXT_PLACES;
 use crate::page;
 use crate::program_texts::longest_job;
@@ -25,17 +25,15 @@ pub fn as_text(job: &Job) -> Case {
 }
 
 pub fn as_numbers(job: &Job, out: usize) -> Case {
-    let (hall, order) = (job.hall.clone(), job.order.clone());
-    Case::WriteNumbers { out: out as u16, hall, moves: moves_of(job), order }
+    Case::WriteNumbers { out: out as u16, job: Listed::of(job) }
 }
 
 /// The same with one number more behind the moves, which is in none.
 pub fn as_odd_numbers(dice: &mut Dice, job: &Job, out: usize) -> Case {
-    let (hall, order) = (job.hall.clone(), job.order.clone());
-    let mut moves = moves_of(job);
-    let last = moves.last().copied().unwrap_or(0);
-    moves.push(dice.pick(&[0, 1, last, 1024, 65_535]));
-    Case::WriteNumbers { out: out as u16, hall, moves, order }
+    let mut job = Listed::of(job);
+    let last = job.moves.last().copied().unwrap_or(0);
+    job.moves.push(dice.pick(&[0, 1, last, 1024, 65_535]));
+    Case::WriteNumbers { out: out as u16, job }
 }
 
 /// Distances and ticks are any numbers at all: they are not written.
@@ -49,8 +47,9 @@ pub fn as_records(dice: &mut Dice, job: &Job, out: usize) -> Case {
         }
     };
     let records = job.moves.iter().map(record).collect();
-    let recorded = Recorded { hall: job.hall.clone(), records, order: job.order.clone() };
-    Case::WriteRecords { out: out as u16, job: recorded }
+    let (hall, order) = (job.hall.clone(), job.order.clone());
+    let job = Recorded { hall, records, order, dwell: job.dwell };
+    Case::WriteRecords { out: out as u16, job }
 }
 
 /// A length that is long enough.
@@ -90,9 +89,9 @@ fn loose_job(dice: &mut Dice) -> Job {
     let moves: Vec<Move> = (0..carriers).map(one_move).collect();
     let mut order: Vec<u16> = (0..carriers as u16).collect();
     dice.shuffle(&mut order);
-    let mut job = Job { hall, moves, order };
+    let mut job = Job { hall, moves, order, dwell: 0 };
     close_free_at_times(dice, &mut job);
-    job
+    dwelling_at_times(dice, job)
 }
 
 /// A random job that can be written: mostly a loose one, at times a hall of
@@ -180,6 +179,24 @@ fn closed_jobs() -> Vec<Job> {
     jobs
 }
 
+/// Dwells on both sides of each step to one digit more, and none: with carriers,
+/// without, with closed nodes, and in the longest text.
+fn dwell_jobs() -> Vec<Job> {
+    let mut jobs = Vec::new();
+    for dwell in [0, 1, 9, 10, 99, 100, MOST_DWELL] {
+        for job in [
+            page::printed_job(),
+            page::job(page::hall(1, &[]), &[]),
+            page::plates_taken_up(),
+            page::goal_out_of_reach(),
+            longest_job(),
+        ] {
+            jobs.push(page::dwelling(dwell, job));
+        }
+    }
+    jobs
+}
+
 /// The sound jobs that every batch writes.
 pub fn sound_jobs(dice: &mut Dice) -> Vec<Job> {
     let mut jobs: Vec<Job> = page::cases().into_iter().map(|(_, job, _)| job).collect();
@@ -188,6 +205,6 @@ pub fn sound_jobs(dice: &mut Dice) -> Vec<Job> {
     jobs.extend(counted_jobs(dice));
     jobs.extend(walkless_jobs());
     jobs.extend(closed_jobs());
-    jobs.push(longest_job());
+    jobs.extend(dwell_jobs());
     jobs
 }

@@ -18,7 +18,7 @@ network-sound j none =
     let nodes = none .in-turn in
     let lanes = nodes .1 in
     let closed = lanes .1 in
-    let each-lane = closed .1 .1 .1 in
+    let each-lane = closed .1 .1 .1 .1 in
     let each-closed = each-lane .1 in
     record { in-turn = (nodes .0, (lanes .0, (closed .0, (each-lane .0, (each-closed .0, tt))))) }
 

@@ -86,17 +86,18 @@ pub fn check_asked(
     closed: &[u16],
     moves: &[u16],
     order: &[u16],
+    dwell: usize,
     carrier: Carrier,
 ) -> Checked
     ensures { λ r. ⌜ Judged
         (askedQuestion
         (jobOf
         (networkOf nodes (now (lanes .entry)) (now (closed .entry)))
-        (now (moves .entry)) (now (order .entry)))
+        (now (moves .entry)) (now (order .entry)) dwell)
         (carrier .0))
         r ⌝ }
 {
-    let job = network::checks::check_job(nodes, lanes, closed, moves, order);
+    let job = network::checks::check_job(nodes, lanes, closed, moves, order, dwell);
     let number = check_number(moves.len() / 2, carrier);
     if let Checked::Refused(_) = job {
         return job;
@@ -115,16 +116,17 @@ pub fn house_for(
     closed: &[u16],
     moves: &[u16],
     order: &[u16],
+    dwell: usize,
     carrier: Carrier,
     path: &mut [u16],
 ) -> Housed
     ensures { λ r. ⌜ HouseAsked
         (jobOf
         (networkOf nodes (now (lanes .entry)) (now (closed .entry)))
-        (now (moves .entry)) (now (order .entry)))
+        (now (moves .entry)) (now (order .entry)) dwell)
         (jobOf
         (networkOf nodes (now (lanes .exit)) (now (closed .exit)))
-        (now (moves .exit)) (now (order .exit)))
+        (now (moves .exit)) (now (order .exit)) dwell)
         (carrier .0)
         (now (path .entry)) (now (path .exit))
         r ⌝ }
@@ -136,7 +138,7 @@ pub fn house_for(
             place: 0,
         });
     }
-    let asked = check_asked(nodes, lanes, closed, moves, order, carrier);
+    let asked = check_asked(nodes, lanes, closed, moves, order, dwell, carrier);
     if let Checked::Refused(refusal) = asked {
         hall::zero::zero_first(path, Job::NODES);
         return Housed::Refused(refusal);
@@ -156,21 +158,22 @@ pub fn judge_for(
     closed: &[u16],
     moves: &[u16],
     order: &[u16],
+    dwell: usize,
     carrier: Carrier,
     list: &[u16],
 ) -> Checked
     ensures { λ r. ⌜ ListAsked
         (jobOf
         (networkOf nodes (now (lanes .entry)) (now (closed .entry)))
-        (now (moves .entry)) (now (order .entry)))
+        (now (moves .entry)) (now (order .entry)) dwell)
         (jobOf
         (networkOf nodes (now (lanes .exit)) (now (closed .exit)))
-        (now (moves .exit)) (now (order .exit)))
+        (now (moves .exit)) (now (order .exit)) dwell)
         (carrier .0)
         (now (list .entry)) (now (list .exit))
         r ⌝ }
 {
-    let asked = check_asked(nodes, lanes, closed, moves, order, carrier);
+    let asked = check_asked(nodes, lanes, closed, moves, order, dwell, carrier);
     if let Checked::Refused(_) = asked {
         return asked;
     }

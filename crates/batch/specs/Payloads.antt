@@ -67,7 +67,7 @@ abbrev pub behindNetwork : List ℕ → List ℕ
 behindNetwork s = behindList (behindLanes s)
 
 abbrev pub markedRoom : ℕ
-markedRoom = 47232
+markedRoom = 47242
 
 abbrev pub byteMark : ℕ
 byteMark = 77

@@ -72,10 +72,10 @@ pub fn text_room() -> [u8; Job::TEXT_BYTES]
     [0; Job::TEXT_BYTES]
 }
 
-pub fn marked_room() -> [u8; 47232]
+pub fn marked_room() -> [u8; 47242]
     ensures { λ r. ⌜ r ≡ replicate markedRoom byteMark ⌝ }
 {
-    [77; 47232]
+    [77; 47242]
 }
 
 // The front of a list, as much as `count` says and there is.

@@ -47,7 +47,9 @@ pub fn read(answer: Read) {
             word(b" ");
             number(job.lanes as u64);
             word(b" ");
-            pair(job.closed as u64, job.carriers as u64);
+            number(job.closed as u64);
+            word(b" ");
+            pair(job.carriers as u64, job.dwell as u64);
         }
         Read::Refused(r) => refused(r),
     }

@@ -164,24 +164,25 @@ module _ (j : Numbers) (p : ℕ) where
 
 -- ---- from the promises
 
-both : {A B C : Type 0} → A ↔ B → B ↔ C → A ↔ C
+pub both : {A B C : Type 0} → A ↔ B → B ↔ C → A ↔ C
 both x y = (λ a. y .0 (x .0 a), λ c. x .1 (y .1 c))
 
-module _ (N N′ : Network) (records records′ : List Record) (order order′ table table′ : List ℕ) (r : Planned)
-    (promise : RecordPlanning N N′ records records′ order order′ table table′ r) (p : ℕ) where
+module _ (N N′ : Network) (records records′ : List Record) (order order′ : List ℕ) (dwell : ℕ)
+    (table table′ : List ℕ) (r : Planned)
+    (promise : RecordPlanning N N′ records records′ order order′ dwell table table′ r) (p : ℕ) where
   abbrev j : Numbers
-  j = recordJob N records order
+  j = recordJob N records order dwell
 
   pub plan-twelve-exactly :
       (saidPlanned r ≡ refused 12 p) ↔ ((¬ (length table < tableLength)) × ClosedEntryAt j p)
   plan-twelve-exactly =
-      both (plan-refused-exactly N N′ records records′ order order′ table table′ r promise 12 p)
+      both (plan-refused-exactly N N′ records records′ order order′ dwell table table′ r promise 12 p)
       (twelve-planning j p (length table < tableLength))
 
   pub plan-thirteen-exactly :
       (saidPlanned r ≡ refused 13 p) ↔ ((¬ (length table < tableLength)) × ClosedEndAt j p)
   plan-thirteen-exactly =
-      both (plan-refused-exactly N N′ records records′ order order′ table table′ r promise 13 p)
+      both (plan-refused-exactly N N′ records records′ order order′ dwell table table′ r promise 13 p)
       (thirteen-planning j p (length table < tableLength))
 
 module _ (j : Numbers) (before after : Lent) (r : Planned) (promise : Planning j before after (saidPlanned r))

@@ -172,20 +172,21 @@ module _ (text text′ lanes lanes′ closed closed′ : List ℕ) (records reco
       NoEarlierFault (jobRead counts lanes′ closed′ records′ order′) table
   read-faultless table long = record { long-table = long; none-checked = accepted-text-written .sound }
 
-module _ (N N′ : Network) (records records′ : List Record) (order order′ table table′ : List ℕ) where
+module _ (N N′ : Network) (records records′ : List Record) (order order′ : List ℕ) (dwell : ℕ)
+    (table table′ : List ℕ) where
   abbrev j : Numbers
-  j = recordJob N records order
+  j = recordJob N records order dwell
 
   -- what `plan` promises of an answer r and of the lists that it leaves
   abbrev Plans : Planned → Type 0
-  Plans r = RecordPlanning N N′ records records′ order order′ table table′ r
+  Plans r = RecordPlanning N N′ records records′ order order′ dwell table table′ r
 
   -- ---- demand 1: planning
 
   pub one-planning : (r s : Planned) (M : Network) (qs : List Record) (p u : List ℕ) → Plans r →
-      RecordPlanning N M records qs order p table u s →
+      RecordPlanning N M records qs order p dwell table u s →
       (r ≡ s) × (N′ ≡ M) × (records′ ≡ qs) × (order′ ≡ p) × (table′ ≡ u)
-  one-planning r s M qs p u = plan-unique N records order table r s N′ M records′ qs order′ p table′ u
+  one-planning r s M qs p u = plan-unique N records order dwell table r s N′ M records′ qs order′ p table′ u
 
   given-fits : (s : Said ℕ) → GivenRecords j records records′ table table′ s → Fits (recordQuestion j table) s
   given-fits (accepted cost) a = a .no-fault
@@ -300,12 +301,12 @@ module _ (N N′ : Network) (records records′ : List Record) (order order′ t
   module _ (cost : ℕ) (promise : Plans (Cost cost)) where
     pub accepted-safe : (path : ℕ → List ℕ) →
         ((i : ℕ) → i < carriers j → ShortestPath (floor N) (start j i) (goal j i) (path i)) →
-        Demand3 (floor N) (carriers j) (start j) (goal j) (tablesIn table′) order (tickOf records′) path
+        Demand3 (floor N) dwell (carriers j) (start j) (goal j) (tablesIn table′) order (tickOf records′) path
     accepted-safe =
         plan-safe j (tablesIn table′) (tickOf records′) cost (planned-sound j table (promise .given .no-fault))
         (promise .given .plan)
 
-    pub accepted-within : Within (carriers j) (tablesIn table′) (tickOf records′) cost
+    pub accepted-within : Within dwell (carriers j) (tablesIn table′) (tickOf records′) cost
     accepted-within =
         plan-within j (planned-sound j table (promise .given .no-fault)) (tablesIn table′) (tickOf records′) cost
         (promise .given .plan)
@@ -316,27 +317,27 @@ module _ (N N′ : Network) (records records′ : List Record) (order order′ t
 
 -- ---- demand 1: one carrier's path, with a job
 
-module _ (N : Network) (records : List Record) (order : List ℕ) (c : ℕ) where
+module _ (N : Network) (records : List Record) (order : List ℕ) (dwell c : ℕ) where
   abbrev asked-job : Numbers
-  asked-job = recordJob N records order
+  asked-job = recordJob N records order dwell
 
   abbrev asked-list : List ℕ → Question
   asked-list list = listOfJob asked-job c (Unfit N (start asked-job c) (goal asked-job c) list)
 
   module _ (M O : Network) (rs qs : List Record) (o p : List ℕ) where
     pub one-house : (path t u : List ℕ) (r s : Housed) →
-        HouseOfRecords N M records rs order o c path t r → HouseOfRecords N O records qs order p c path u s →
+        HouseOfRecords N M records rs order o dwell c path t r → HouseOfRecords N O records qs order p dwell c path u s →
         ((r ≡ s) × (t ≡ u)) × ((M ≡ O) × (rs ≡ qs) × (o ≡ p))
-    one-house = house-unique N records order c M O rs qs o p
+    one-house = house-unique N records order dwell c M O rs qs o p
 
     pub one-judgement : (list t u : List ℕ) (r s : Checked) →
-        ListOfRecords N M records rs order o c list t r → ListOfRecords N O records qs order p c list u s →
+        ListOfRecords N M records rs order o dwell c list t r → ListOfRecords N O records qs order p dwell c list u s →
         ((r ≡ s) × (t ≡ u)) × ((M ≡ O) × (rs ≡ qs) × (o ≡ p))
-    one-judgement = judge-unique N records order c M O rs qs o p
+    one-judgement = judge-unique N records order dwell c M O rs qs o p
 
   module _ (N′ : Network) (records′ : List Record) (order′ : List ℕ) where
     module _ (path path′ : List ℕ) (r : Housed)
-        (a : HouseOfRecords N N′ records records′ order order′ c path path′ r) where
+        (a : HouseOfRecords N N′ records records′ order order′ dwell c path path′ r) where
       abbrev house-question : Question
       house-question = houseOfJob (length path < nodeLimit) asked-job c
 
@@ -359,7 +360,7 @@ module _ (N : Network) (records : List Record) (order : List ℕ) (c : ℕ) wher
       house-laid count e = let b = rw e at (a .given) in b .1
 
     module _ (list list′ : List ℕ) (r : Checked)
-        (a : ListOfRecords N N′ records records′ order order′ c list list′ r) where
+        (a : ListOfRecords N N′ records records′ order order′ dwell c list list′ r) where
       pub list-refused-exactly : (n p : ℕ) → (saidChecked r ≡ refused n p) ↔ First (asked-list list) n p
       list-refused-exactly = stages.refused-exactly (saidChecked r) (a .given)
 

@@ -5,9 +5,11 @@
 --     Written    of a job as its text, and back
 --     Closed     of the refusals for closed nodes
 --     Open       of where carriers stand, and of closed nodes in texts
+--     Dwell      of the refusal for a dwell, the greatest ticks, jobs without dwell, and that it comes back
 pub mod Demands
 pub mod Program
 pub mod Shared
 pub mod Written
 pub mod Closed
 pub mod Open
+pub mod Dwell

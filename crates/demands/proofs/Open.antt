@@ -1,7 +1,7 @@
 -- Open nodes (rules 2.7, 2.8, 7.16 and 12.1 to 12.3), as theorems that start from the promises as these stand
 -- in the source. The floor of a network has its open nodes alone, so that the demands of Demands.antt,
--- Program.antt and Written.antt speak of open nodes as they stand. Here stands what that comes to: the ends of
--- an accepted job are open, and no shortest path stands on a closed node at any tick; a list that does is
+-- Program.antt and Written.antt speak of open nodes as they stand. Here stands what that comes to: the ends
+-- of an accepted job are open, and no shortest path stands on a closed node at any tick; a list that does is
 -- refused with 11; and the closed nodes come back from the text of a job. Assumes nothing.
 --     nodes-open            the nodes of a shortest path are open; stands-open so is each that a carrier
 --                           stands on at a tick, whatever its start tick
@@ -52,13 +52,14 @@ module _ (N : Network) (s g : ℕ) (path : List ℕ) (shortest : ShortestPath (f
   pub nodes-open : (k : ℕ) → k < length path → Open N (getD path k 0)
   nodes-open k h = shortest .is-path .nodes k (omega (arith, shortest .is-path .size))
 
-  pub stands-open : (t x v : ℕ) → At path t x v → Open N v
-  stands-open t x v a = subst (Open N) (a .node) (nodes-open (a .gone) (a .on-floor))
+  pub stands-open : (w t x v : ℕ) → At w path t x v → Open N v
+  stands-open w t x v a = subst (Open N) (a .node) (nodes-open (a .gone) (a .on-floor))
 
-module _ (N N′ : Network) (records records′ : List Record) (order order′ table table′ : List ℕ) (cost : ℕ)
-    (promise : RecordPlanning N N′ records records′ order order′ table table′ (Cost cost)) where
+module _ (N N′ : Network) (records records′ : List Record) (order order′ : List ℕ) (dwell : ℕ)
+    (table table′ : List ℕ) (cost : ℕ)
+    (promise : RecordPlanning N N′ records records′ order order′ dwell table table′ (Cost cost)) where
   abbrev accepted-job : Numbers
-  accepted-job = recordJob N records order
+  accepted-job = recordJob N records order dwell
 
   pub accepted-ends-open : (i : ℕ) → i < carriers accepted-job →
       Open N (start accepted-job i) × Open N (goal accepted-job i)
@@ -69,40 +70,40 @@ module _ (N N′ : Network) (records records′ : List Record) (order order′ t
   pub accepted-open : (path : ℕ → List ℕ) →
       ((i : ℕ) → i < carriers accepted-job →
       ShortestPath (floor N) (start accepted-job i) (goal accepted-job i) (path i)) →
-      (i : ℕ) → i < carriers accepted-job → (x v : ℕ) → At (path i) (tickOf records′ i) x v → Open N v
+      (i : ℕ) → i < carriers accepted-job → (x v : ℕ) → At dwell (path i) (tickOf records′ i) x v → Open N v
   accepted-open path shortest i h x v =
-      stands-open N (start accepted-job i) (goal accepted-job i) (path i) (shortest i h) (tickOf records′ i) x v
+      stands-open N (start accepted-job i) (goal accepted-job i) (path i) (shortest i h) dwell (tickOf records′ i) x v
 
 pub planned-open : {text : List ℕ} {j : Numbers} {t : Tables} {tick : ℕ → ℕ} {cost : ℕ} →
     PlannedAs text j t tick cost → (path : ℕ → List ℕ) →
     ((i : ℕ) → i < carriers j → ShortestPath (floor (j .network)) (start j i) (goal j i) (path i)) →
-    (i : ℕ) → i < carriers j → (x v : ℕ) → At (path i) (tick i) x v → Open (j .network) v
+    (i : ℕ) → i < carriers j → (x v : ℕ) → At (j .dwell) (path i) (tick i) x v → Open (j .network) v
 planned-open {j = j} {tick = tick} a path shortest i h x v =
-    stands-open (j .network) (start j i) (goal j i) (path i) (shortest i h) (tick i) x v
+    stands-open (j .network) (start j i) (goal j i) (path i) (shortest i h) (j .dwell) (tick i) x v
 
-module _ (N N′ : Network) (records records′ : List Record) (order order′ : List ℕ) (c : ℕ) where
+module _ (N N′ : Network) (records records′ : List Record) (order order′ : List ℕ) (dwell c : ℕ) where
   abbrev its-job : Numbers
-  its-job = recordJob N records order
+  its-job = recordJob N records order dwell
 
   pub house-open : (path path′ : List ℕ) (count : ℕ) →
-      HouseOfRecords N N′ records records′ order order′ c path path′ (Nodes count) →
+      HouseOfRecords N N′ records records′ order order′ dwell c path path′ (Nodes count) →
       (k : ℕ) → k < length (take count path′) → Open N (getD (take count path′) k 0)
   house-open path path′ count a =
       nodes-open N (start its-job c) (goal its-job c) (take count path′)
-      (house-shortest N records order c N′ records′ order′ path path′ count a)
+      (house-shortest N records order dwell c N′ records′ order′ path path′ count a)
 
   module _ (list list′ : List ℕ) where
-    pub sound-open : ListOfRecords N N′ records records′ order order′ c list list′ Sound →
+    pub sound-open : ListOfRecords N N′ records records′ order order′ dwell c list list′ Sound →
         (k : ℕ) → k < length list → Open N (getD list k 0)
     sound-open a =
         nodes-open N (start its-job c) (goal its-job c) list
-        (sound-shortest N records order c N′ records′ order′ list list′ a)
+        (sound-shortest N records order dwell c N′ records′ order′ list list′ a)
 
-    pub closed-list-refused : (r : Checked) → ListOfRecords N N′ records records′ order order′ c list list′ r →
+    pub closed-list-refused : (r : Checked) → ListOfRecords N N′ records records′ order order′ dwell c list list′ r →
         None (askedQuestion its-job c) → (k : ℕ) → k < length list → Closed (N .closed) (getD list k 0) →
         saidChecked r ≡ refused 11 0
     closed-list-refused r a none k h shut =
-        list-refused-exactly N records order c N′ records′ order′ list list′ r a 11 0 .1
+        list-refused-exactly N records order dwell c N′ records′ order′ list list′ r a 11 0 .1
         (first-after none
         (asked-here (λ s. nodes-open N (start its-job c) (goal its-job c) list s k h .not-closed shut)))
 
@@ -119,10 +120,10 @@ numbers-closed-come-back lanes closed moves order lanes′ closed′ moves′ or
     numbers-come-back lanes closed moves order lanes′ closed′ moves′ order′ j out out′ size r a long b in
     ap (λ (k : Numbers). k .network .closed) (back .1)
 
-pub closed-come-back : {N N′ : Network} {records records′ : List Record} {order order′ out out′ : List ℕ}
+pub closed-come-back : {N N′ : Network} {records records′ : List Record} {order order′ : List ℕ} {dwell : ℕ} {out out′ : List ℕ}
     {text′ lanes₀ lanes₁ closed₀ closed₁ : List ℕ} {records₀ records₁ : List Record} {order₀ order₁ : List ℕ}
     (size : ℕ) (r : Read) →
-    RecordWriting N N′ records records′ order order′ out out′ (Bytes size) →
+    RecordWriting N N′ records records′ order order′ dwell out out′ (Bytes size) →
     ¬ LentShort lanes₀ closed₀ records₀ order₀ →
     ReadLeft (take size out′) text′ lanes₀ lanes₁ closed₀ closed₁ records₀ records₁ order₀ order₁ r →
     take (length (N .closed)) closed₁ ≡ N .closed

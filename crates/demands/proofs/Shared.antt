@@ -8,8 +8,10 @@
 --                          walk for each carrier is planned
 --     accepted-two         demand 3 of any two carriers of an accepted job, those with one start, one goal or
 --                          both among them
---     accepted-in-a-row    if all have one start, the carrier at place p starts at tick p
---     planned-two, planned-in-a-row    the same of the plan that the program owes for a text, and prints
+--     accepted-starts-apart    start ticks from one start are more than the dwell apart
+--     accepted-in-a-row    if all have one start, the carrier at place p starts at tick p × (dwell + 1)
+--     planned-two, planned-starts-apart, planned-in-a-row    the same of the plan that the program owes for a
+--                          text, and prints
 --     read-never-six, plan-never-six, house-never-six, check-never-six, write-never-six    no question
 --                          answers 6
 --     plan-six-never-first    nor do the checks of planning give it, of any job
@@ -18,7 +20,7 @@
 use mathlib.Core.Path.{_≡_, refl, sym, _∙_, ap, subst}
 use mathlib.Core.Logic.{_≢_}
 use mathlib.Core.List.{List, [], _∷_, _++_}
-use Prim.Native.Nat.{ℕ, _≤_, _<_}
+use Prim.Native.Nat.{ℕ, suc, _*_, _≤_, _<_}
 use native.Mathlib.Omega.{arith}
 use lib.ListN.{length, getD}
 use Rattle.hall.specs.declared.Checked.{Checked}
@@ -34,14 +36,14 @@ use Rattle.hall.specs.WellFormed.{WellFormed}
 use Rattle.hall.specs.Ticks.{Tables, own}
 use Rattle.hall.specs.Path.{ShortestPath}
 use Rattle.hall.specs.Plan.{tablesIn}
-use Rattle.hall.specs.Safety.{Demand3OfTwo}
+use Rattle.hall.specs.Safety.{TicksNear, Demand3OfTwo}
 use Rattle.hall.proofs.Numbers.{never-six, accepted-never-six}
 use Rattle.hall.proofs.Compose.{none-at-all, none-more, none-append}
 use Rattle.hall.proofs.Places.{asked-clear, Passed, each-none}
 use Rattle.hall.proofs.Left.{first-among}
 use Rattle.hall.proofs.Sound.{checks-of-none}
 use Rattle.hall.proofs.WellFormed.{well-formed-iff}
-use Rattle.hall.proofs.Shared.{two-safe, in-a-row}
+use Rattle.hall.proofs.Shared.{two-safe, starts-apart, in-a-row}
 use Rattle.records.specs.declared.Record.{Record}
 use Rattle.form.specs.Lines.{further, countLine}
 use Rattle.form.proofs.LineForms.{further-unique}
@@ -65,15 +67,16 @@ use Rattle.demands.proofs.Demands.{plan-accepted-exactly, accepted-safe
 
 -- ---- an accepted job
 
-module _ (N N′ : Network) (records records′ : List Record) (order order′ table table′ : List ℕ) where
+module _ (N N′ : Network) (records records′ : List Record) (order order′ : List ℕ) (dwell : ℕ)
+    (table table′ : List ℕ) where
   abbrev j : Numbers
-  j = recordJob N records order
+  j = recordJob N records order dwell
 
-  pub well-formed-accepted : (r : Planned) → RecordPlanning N N′ records records′ order order′ table table′ r →
+  pub well-formed-accepted : (r : Planned) → RecordPlanning N N′ records records′ order order′ dwell table table′ r →
       WellFormed j → ((i : ℕ) → i < carriers j → (n : ℕ) × Walk (floor N) (start j i) (goal j i) n) →
       tableLength ≤ length table → (cost : ℕ) × (r ≡ Cost cost)
   well-formed-accepted r promise formed walks long =
-      plan-accepted-exactly N N′ records records′ order order′ table table′ r promise .1
+      plan-accepted-exactly N N′ records records′ order order′ dwell table table′ r promise .1
       (asked-clear (λ short. omega arith)
       (none-append (well-formed-iff j .1 formed)
       (none-more (each-none (walkChecks N (j .moves)) passed) none-at-all)))
@@ -81,17 +84,23 @@ module _ (N N′ : Network) (records records′ : List Record) (order order′ t
       passed : Passed (walkChecks N (j .moves)) (carriers j)
       passed = record { clear = λ i h. (λ none. none (walks i h .0) (walks i h .1), tt) }
 
-  module _ (cost : ℕ) (promise : RecordPlanning N N′ records records′ order order′ table table′ (Cost cost)) where
+  module _ (cost : ℕ) (promise : RecordPlanning N N′ records records′ order order′ dwell table table′ (Cost cost)) where
     pub accepted-two : (path : ℕ → List ℕ) →
         ((i : ℕ) → i < carriers j → ShortestPath (floor N) (start j i) (goal j i) (path i)) →
         (i k : ℕ) → i < carriers j → k < carriers j → i ≢ k →
-        Demand3OfTwo (start j) (goal j) (tablesIn table′) (tickOf records′) path i k
+        Demand3OfTwo dwell (start j) (goal j) (tablesIn table′) (tickOf records′) path i k
     accepted-two path shortest =
         two-safe shortest
-        (accepted-safe N N′ records records′ order order′ table table′ cost promise path shortest)
+        (accepted-safe N N′ records records′ order order′ dwell table table′ cost promise path shortest)
+
+    pub accepted-starts-apart : (i k : ℕ) → i < carriers j → k < carriers j → i ≢ k → start j i ≡ start j k →
+        ¬ TicksNear dwell (tickOf records′ i) (tickOf records′ k)
+    accepted-starts-apart =
+        starts-apart j (planned-sound j table (promise .given .no-fault)) (tablesIn table′) (tickOf records′) cost
+        (promise .given .plan)
 
     pub accepted-in-a-row : ((i k : ℕ) → i < carriers j → k < carriers j → start j i ≡ start j k) →
-        (p : ℕ) → p < length order → tickOf records′ (at-place j p) ≡ p
+        (p : ℕ) → p < length order → tickOf records′ (at-place j p) ≡ suc dwell * p
     accepted-in-a-row =
         in-a-row j (planned-sound j table (promise .given .no-fault)) (tablesIn table′) (tickOf records′) cost
         (promise .given .plan)
@@ -101,11 +110,15 @@ module _ (N N′ : Network) (records records′ : List Record) (order order′ t
 module _ {text : List ℕ} {j : Numbers} {t : Tables} {tick : ℕ → ℕ} {cost : ℕ} (a : PlannedAs text j t tick cost) where
   pub planned-two : (path : ℕ → List ℕ) →
       ((i : ℕ) → i < carriers j → ShortestPath (floor (j .network)) (start j i) (goal j i) (path i)) →
-      (i k : ℕ) → i < carriers j → k < carriers j → i ≢ k → Demand3OfTwo (start j) (goal j) t tick path i k
+      (i k : ℕ) → i < carriers j → k < carriers j → i ≢ k → Demand3OfTwo (j .dwell) (start j) (goal j) t tick path i k
   planned-two path shortest = two-safe shortest (a .safe path shortest)
 
+  pub planned-starts-apart : (i k : ℕ) → i < carriers j → k < carriers j → i ≢ k → start j i ≡ start j k →
+      ¬ TicksNear (j .dwell) (tick i) (tick k)
+  planned-starts-apart = starts-apart j (checks-of-none j (a .no-fault)) t tick cost (a .plan)
+
   pub planned-in-a-row : ((i k : ℕ) → i < carriers j → k < carriers j → start j i ≡ start j k) →
-      (p : ℕ) → p < length (j .order) → tick (at-place j p) ≡ p
+      (p : ℕ) → p < length (j .order) → tick (at-place j p) ≡ suc (j .dwell) * p
   planned-in-a-row = in-a-row j (checks-of-none j (a .no-fault)) t tick cost (a .plan)
 
 -- ---- 6 does not occur

@@ -12,7 +12,7 @@
 --     write-nine-kept, write-other-zeroed, write-filled    what the output holds after 9, after another
 --                              refusal, and where the job is written
 --     always-written           every job without faults of the listed checks is written into an output that
---                              is long enough; its text has at most 47,099 bytes, as if each number had four
+--                              is long enough; its text has at most 47,110 bytes, as if each number had four
 --                              digits
 --     write-unreached          a job that planning refuses with 8 is written
 --     written-front            the first bytes, as many as the answer says, are the text
@@ -117,9 +117,9 @@ module _ (j : Numbers) (out out′ : List ℕ) where
     pub write-filled : textRoom ≤ length out → None (checksQuestion j) → out′ ≡ filled (textOf j) textRoom out
     write-filled long none = subst Writes (write-accepted-exactly .0 (long, none)) a .output-left
 
-    -- every job without faults of the listed checks is written, and 47,132 bytes are enough for it
+    -- every job without faults of the listed checks is written, and 47,142 bytes are enough for it
     pub always-written : textRoom ≤ length out → None (checksQuestion j) →
-        (r ≡ Bytes (length (textOf j))) × (length (textOf j) ≤ 47099)
+        (r ≡ Bytes (length (textOf j))) × (length (textOf j) ≤ 47110)
     always-written long none =
         (said-bytes r (length (textOf j)) (write-accepted-exactly .0 (long, none)), written-length j none)
 
@@ -156,6 +156,7 @@ whole-counts j =
       lanes = laneCount (j .network .lanes);
       closed = length (j .network .closed);
       carriers = count i;
+      dwell = j .dwell;
     }
 
 -- a job whose moves go by twos stands in tables that are filled with its numbers
@@ -180,11 +181,11 @@ numbers-filled j lanes closed moves order l v m o none paired el ev em eo =
     let as-order =
     ap (λ (t : List ℕ). take k t) eo
     ∙ filled-front (j .order) carrierLimit order k (well-formed-iff j .0 none .order-count) in
-    λ i. jobOf (networkOf nodes (as-lanes i) (as-closed i)) (as-moves i) (as-order i)
+    λ i. jobOf (networkOf nodes (as-lanes i) (as-closed i)) (as-moves i) (as-order i) (j .dwell)
 
 module _ (lanes closed moves order lanes′ closed′ moves′ order′ : List ℕ) where
-  -- what was written is read: the same counts, lanes, closed nodes, moves and order; an odd last number was
-  -- in no move
+  -- what was written is read: the same counts, lanes, closed nodes, moves, order and dwell; an odd last
+  -- number was in no move
   pub numbers-come-back : (j : Numbers) (out out′ : List ℕ) (size : ℕ) (r : Read) →
       Writing j out out′ (saidWritten (Bytes size)) →
       ¬ AnyShort lanes closed moves order →
@@ -212,7 +213,7 @@ module _ (lanes closed moves order lanes′ closed′ moves′ order′ : List �
       (r ≡ Read.Job (countsOf j)) × (numbersRead (countsOf j) lanes′ closed′ moves′ order′ ≡ j)
   paired-come-back j out out′ size r paired a long b =
       let back = numbers-come-back j out out′ size r a long b in
-      (back .0, back .1 ∙ ap (λ (ms : List ℕ). jobOf (j .network) ms (j .order)) (whole-paired (j .moves) paired))
+      (back .0, back .1 ∙ ap (λ (ms : List ℕ). jobOf (j .network) ms (j .order) (j .dwell)) (whole-paired (j .moves) paired))
 
   -- what was read is written: the same bytes
   pub numbers-text-comes-back : (text out out′ : List ℕ) (counts : Job) (r : Written) →
@@ -231,19 +232,19 @@ module _ (lanes closed moves order lanes′ closed′ moves′ order′ : List �
 
 -- ---- with records
 
--- what was written is read: the same counts, lanes, closed nodes, moves and order
-pub job-comes-back : {N N′ : Network} {records records′ : List Record} {order order′ out out′ : List ℕ}
-    {text′ lanes₀ lanes₁ closed₀ closed₁ : List ℕ} {records₀ records₁ : List Record} {order₀ order₁ : List ℕ}
+-- what was written is read: the same counts, lanes, closed nodes, moves, order and dwell
+pub job-comes-back : {N N′ : Network} {records records′ : List Record} {order order′ : List ℕ} {dwell : ℕ}
+    {out out′ text′ lanes₀ lanes₁ closed₀ closed₁ : List ℕ} {records₀ records₁ : List Record} {order₀ order₁ : List ℕ}
     (size : ℕ) (r : Read) →
-    RecordWriting N N′ records records′ order order′ out out′ (Bytes size) →
+    RecordWriting N N′ records records′ order order′ dwell out out′ (Bytes size) →
     ¬ LentShort lanes₀ closed₀ records₀ order₀ →
     ReadLeft (take size out′) text′ lanes₀ lanes₁ closed₀ closed₁ records₀ records₁ order₀ order₁ r →
-    let j = recordJob N records order in
+    let j = recordJob N records order dwell in
     (r ≡ Read.Job (countsOf j)) × (jobRead (countsOf j) lanes₁ closed₁ records₁ order₁ ≡ j)
-job-comes-back {N} {records = records} {order = order} {out = out} {out′ = out′} size r a long b =
-    let j = recordJob N records order in
+job-comes-back {N} {records = records} {order = order} {dwell = dwell} {out = out} {out′ = out′} size r a long b =
+    let j = recordJob N records order dwell in
     let twos : length (movesOf records) ≡ 2 * carriers j = omega (arith, moves-length records) in
-    let whole = ap (λ (ms : List ℕ). jobOf N ms order) (whole-paired (movesOf records) twos) in
+    let whole = ap (λ (ms : List ℕ). jobOf N ms order dwell) (whole-paired (movesOf records) twos) in
     let w = whole-written j (none-asked (a .given .no-fault) .1) in
     let own : WrittenJob (textOf j) j = rw whole at w in
     let front = written-front j out out′ size (a .given) in
@@ -252,7 +253,8 @@ job-comes-back {N} {records = records} {order = order} {out = out} {out′ = out
     (said-read-one r (Read.Job (countsOf j)) (back .0), back .1)
 
 -- what was read is written: the same bytes. The network and the order that the counts cut out of the tables
--- are lent to writing, and records with the moves that were read, whatever their distances and ticks are
+-- are lent to writing, the dwell that was answered, and records with the moves that were read, whatever their
+-- distances and ticks are
 pub text-comes-back : {text text′ lanes lanes′ closed closed′ : List ℕ}
     {records records′ planned rs : List Record} {order order′ o out out′ : List ℕ} {N′ : Network} (counts : Job) (r : Written) →
     ReadLeft text text′ lanes lanes′ closed closed′ records records′ order order′ (Read.Job counts) →
@@ -262,12 +264,13 @@ pub text-comes-back : {text text′ lanes lanes′ closed closed′ : List ℕ}
     (networkOf (counts .nodes) (take (2 * counts .lanes) lanes′) (take (counts .closed) closed′)) N′
     planned rs
     (take (counts .carriers) order′) o
+    (counts .dwell)
     out out′ r →
     (r ≡ Bytes (length text)) × (take (length text) out′ ≡ text) × (out′ ≡ filled text textRoom out)
 text-comes-back {text} {text′} {lanes} {lanes′} {closed} {closed′} {records} {records′} {order = order} {order′ = order′} {out = out} {out′ = out′} counts r b same long a =
     let w = accepted-text-written text text′ lanes lanes′ closed closed′ records records′ order order′ counts b in
     let N = networkOf (counts .nodes) (take (2 * counts .lanes) lanes′) (take (counts .closed) closed′) in
-    let as-read = ap (λ (ms : List ℕ). jobOf N ms (take (counts .carriers) order′)) same in
+    let as-read = ap (λ (ms : List ℕ). jobOf N ms (take (counts .carriers) order′) (counts .dwell)) same in
     let its = subst (λ (k : Numbers). Writing k out out′ (saidWritten r)) as-read (a .given) in
     written-again (jobRead counts lanes′ closed′ records′ order′) out out′ r its w long
 
@@ -277,15 +280,16 @@ pub one-writing : (j : Numbers) (out : List ℕ) (r s : Written) (a b : List ℕ
     Writing j out a (saidWritten r) → Writing j out b (saidWritten s) → (r ≡ s) × (a ≡ b)
 one-writing = writing-unique
 
-pub one-record-writing : (N M O : Network) (records rs qs : List Record) (order o p out a b : List ℕ)
-    (r s : Written) →
-    RecordWriting N M records rs order o out a r → RecordWriting N O records qs order p out b s →
+pub one-record-writing : (N M O : Network) (records rs qs : List Record) (order o p : List ℕ) (dwell : ℕ)
+    (out a b : List ℕ) (r s : Written) →
+    RecordWriting N M records rs order o dwell out a r → RecordWriting N O records qs order p dwell out b s →
     ((r ≡ s) × (a ≡ b)) × ((M ≡ O) × (rs ≡ qs) × (o ≡ p))
-one-record-writing N M O records rs qs order o p out a b = write-unique N records order M O rs qs o p out a b
+one-record-writing N M O records rs qs order o p dwell out a b = write-unique N records order dwell M O rs qs o p out a b
 
 -- with records and from their numbers it is one question
-pub one-meaning : (N N′ : Network) (records rs : List Record) (order o out a b : List ℕ) (r s : Written) →
-    RecordWriting N N′ records rs order o out a r → Writing (jobOf N (movesOf records) order) out b (saidWritten s) →
+pub one-meaning : (N N′ : Network) (records rs : List Record) (order o : List ℕ) (dwell : ℕ) (out a b : List ℕ)
+    (r s : Written) → RecordWriting N N′ records rs order o dwell out a r →
+    Writing (jobOf N (movesOf records) order dwell) out b (saidWritten s) →
     (r ≡ s) × (a ≡ b)
-one-meaning N N′ records rs order o out a b r s x y =
-    writing-unique (jobOf N (movesOf records) order) out r s a b (x .given) y
+one-meaning N N′ records rs order o dwell out a b r s x y =
+    writing-unique (jobOf N (movesOf records) order dwell) out r s a b (x .given) y

@@ -1,5 +1,5 @@
 -- When a job is refused for its closed nodes, said of its lists (rules 8.12 and 8.13).
---     beforeClosed      what is asked before the closed nodes: the five counts and the lanes
+--     beforeClosed      what is asked before the closed nodes: the five counts, the dwell and the lanes
 --     beforeMoves       what is asked before the moves: the same, and the closed nodes
 --     ClosedEntryAt     12 at place p: nothing holds that is asked before; entry p of the closed nodes is no
 --                       node or does not exceed its predecessor, and no entry before it is at fault
@@ -17,7 +17,7 @@ use Rattle.hall.specs.Questions.{moveChecks, eachLane, eachClosed, counts}
 abbrev pub beforeClosed : Numbers → Question
 beforeClosed j =
     counts (j .network .nodes) (length (j .network .lanes)) (length (j .network .closed))
-    (carriers j) (length (j .order))
+    (carriers j) (length (j .order)) (j .dwell)
     ++ (eachLane (j .network .nodes) (j .network .lanes) ∷ [])
 
 abbrev pub beforeMoves : Numbers → Question

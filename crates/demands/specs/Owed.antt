@@ -6,7 +6,8 @@
 --     PlannedAs       by the rules the text has this plan: it is the written form of a job without faults;
 --                     the tables hold the true distances and each carrier has one; each start tick is the
 --                     smallest, in the order's turn, that the carriers before permit; the cost is the sum of
---                     the goal ticks; and whatever shortest paths the carriers take, demand 3 holds of them
+--                     the goal ticks, all within the limits; each carrier has a shortest path; and whatever
+--                     shortest paths the carriers take, demand 3 holds of them
 --     Owed            what is printed is the refusal with the number and the line for which the text is
 --                     refused, or the plan that it has
 use mathlib.Core.Path.{_≡_}
@@ -34,12 +35,12 @@ pub record PlannedAs (text : List ℕ) (j : Numbers) (t : Tables) (tick : ℕ �
   pub writes : WrittenJob text j
   pub no-fault : None (jobQuestion j)
   pub plan : Plan j t tick cost
-  pub within : Within (carriers j) t tick cost
+  pub within : Within (j .dwell) (carriers j) t tick cost
   pub paths : (i : ℕ) → i < carriers j →
       (l : List ℕ) × ShortestPath (floor (j .network)) (start j i) (goal j i) l
   pub safe : (path : ℕ → List ℕ) →
       ((i : ℕ) → i < carriers j → ShortestPath (floor (j .network)) (start j i) (goal j i) (path i)) →
-      Demand3 (floor (j .network)) (carriers j) (start j) (goal j) t (j .order) tick path
+      Demand3 (floor (j .network)) (j .dwell) (carriers j) (start j) (goal j) t (j .order) tick path
 
 pub data Owed (text printed : List ℕ) : Type 0 where
   refusal : {n line : ℕ} → RefusedFor text n line → printed ≡ refusedText n line → Owed text printed

@@ -6,6 +6,7 @@
 --                        many lines further down as the closed nodes' section has (`closedLines`) otherwise
 --     none-closed, some-closed    how many it has, by the count of the closed nodes
 --     carrier-written    in the text of a job that line has the carrier's start and goal
+--     dwellLines         how many lines the dwell has: one, or none where it is 0
 --     job-lines          how many lines the text of a job has
 use mathlib.Core.Path.{_≡_, refl, _∙_, ap}
 use mathlib.Core.List.{List, [], _∷_, _++_, append-assoc, append-nil}
@@ -19,14 +20,14 @@ use Rattle.form.specs.Lines.{entryLine, entryLines, LineIs}
 use Rattle.form.specs.Sections.{Content, content, sameWord}
 use Rattle.form.specs.Words.{NODES, LANES, CLOSED, CARRIERS, ORDER}
 use Rattle.form.specs.Contents.{written, lineCount}
-use Rattle.form.specs.Jobs.{pairs, singles, closedContents, contentsOf, WrittenJob}
+use Rattle.form.specs.Jobs.{pairs, singles, closedContents, dwellContents, contentsOf, WrittenJob}
 use Rattle.form.specs.Jobs.{linesAbove, closedLines, lineOf}
 use Rattle.form.proofs.Steps.{written-append, entries-append, lines-append}
 use Rattle.form.proofs.Rows.{pairs-count, singles-count}
 use Rattle.form.proofs.LineNumbers.{Lined, lined-append, line-is}
 use Rattle.form.proofs.JobTexts.{job-told}
 
--- ---- the lines of the closed nodes
+-- ---- the lines of the closed nodes and of the dwell
 
 pub none-closed : (l : List ℕ) → length l ≡ 0 → closedLines l ≡ 0
 none-closed [] e = refl
@@ -45,6 +46,15 @@ closed-lined : (l : List ℕ) → Lined (closedContents l)
 closed-lined [] = tt
 closed-lined (v ∷ l) = (job-told .2 .2 .0, tt)
 
+abbrev pub dwellLines : ℕ → ℕ
+dwellLines zero = 0
+dwellLines (suc w) = 1
+
+dwell-lines : (w : ℕ) → lineCount (dwellContents w) ≡ dwellLines w
+unfolding lineCount
+dwell-lines zero = refl
+dwell-lines (suc w) = refl
+
 -- ---- the lines above the carriers
 
 lines-above : (n m k : ℕ) (lanes moves : List (List ℕ)) (more : List Content) (closed : List ℕ)
@@ -58,7 +68,7 @@ lines-above n m k lanes moves more (v ∷ l) = omega (arith, singles-count (v �
 pub carrier-line : (j : Numbers) (i : ℕ)
     → lineOf j i ≡ 4 + laneCount (j .network .lanes) + closedLines (j .network .closed) + i
 carrier-line j i =
-    let last = content ORDER (length (j .order)) (singles (j .order)) ∷ [] in
+    let last = content ORDER (length (j .order)) (singles (j .order)) ∷ dwellContents (j .dwell) in
     omega (
       arith,
       pairs-count (j .network .lanes),
@@ -69,10 +79,13 @@ carrier-line j i =
 pub job-lines : (j : Numbers)
     → lineCount (contentsOf j)
     ≡ 4 + laneCount (j .network .lanes) + closedLines (j .network .closed) + job.carriers j + length (j .order)
+    + dwellLines (j .dwell)
 unfolding lineCount
 job-lines j =
     let behind =
-    content CARRIERS (job.carriers j) (pairs (j .moves)) ∷ content ORDER (length (j .order)) (singles (j .order)) ∷ [] in
+    content CARRIERS (job.carriers j) (pairs (j .moves))
+    ∷ content ORDER (length (j .order)) (singles (j .order))
+    ∷ dwellContents (j .dwell) in
     omega (
       arith,
       pairs-count (j .network .lanes),
@@ -80,6 +93,7 @@ job-lines j =
       singles-count (j .order),
       lines-append (closedContents (j .network .closed)) behind,
       closed-lines (j .network .closed),
+      dwell-lines (j .dwell),
     )
 
 -- ---- one entry of many
@@ -157,7 +171,7 @@ module _ (t : List ℕ) (j : Numbers) (w : WrittenJob t j) (i : ℕ) (inside : i
   pub carrier-written : LineIs t (lineOf j i) (entryLine (start j i ∷ goal j i ∷ []))
   unfolding front above
   carrier-written =
-      let last = content ORDER (length (j .order)) (singles (j .order)) ∷ [] in
+      let last = content ORDER (length (j .order)) (singles (j .order)) ∷ dwellContents (j .dwell) in
       let text : t ≡ written (above ++ (content CARRIERS (job.carriers j) (pairs (j .moves)) ∷ last)) =
       w .writes in
       let whole : t ≡ written front ++

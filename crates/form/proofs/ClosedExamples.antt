@@ -30,7 +30,7 @@ use Rattle.form.specs.Words.{NODES, LANES, CLOSED, CARRIERS, ORDER}
 use Rattle.form.specs.Contents.{written, first}
 use Rattle.form.specs.Stands.{within}
 use Rattle.form.specs.Texts.{Refused}
-use Rattle.form.specs.JobText.{closedSection, carriersSection, orderSection, jobText}
+use Rattle.form.specs.JobText.{closedSection, carriersSection, orderSection, dwellSection, jobText}
 use Rattle.form.specs.Jobs.{pairs, singles, WrittenJob}
 use Rattle.form.specs.Reached.{Reached}
 use Rattle.form.proofs.Reached.{past-count, past-entry, count-refused, entry-refused, first-lacking}
@@ -52,7 +52,7 @@ closed-text =
     48 ∷ 10 ∷ []
 
 abbrev pub closed-example : Numbers
-closed-example = jobOf (networkOf 3 (0 ∷ 2 ∷ []) (1 ∷ [])) (0 ∷ 2 ∷ []) (0 ∷ [])
+closed-example = jobOf (networkOf 3 (0 ∷ 2 ∷ []) (1 ∷ [])) (0 ∷ 2 ∷ []) (0 ∷ []) 0
 
 pub closed-written : WrittenJob closed-text closed-example
 unfolding closed-text written countLine entryLines entryLine further digits digitsUpTo pairs singles
@@ -90,8 +90,8 @@ module _ (rest : List ℕ) where
   with-closed c = no-lanes (countLine CLOSED c ++ rest)
 
   pub behind-closed : (c : ℕ) → 1 ≤ c → c ≤ 2 → Reached jobText (with-closed c)
-      (within (content NODES 2 [] ∷ content LANES 0 [] ∷ []) closedSection c [] (carriersSection ∷ orderSection ∷ []))
-      rest 4
+      (within (content NODES 2 [] ∷ content LANES 0 [] ∷ []) closedSection c []
+      (carriersSection ∷ orderSection ∷ dwellSection ∷ [])) rest 4
   behind-closed c some few =
       past-count jobText (with-closed c) (behind-lanes (countLine CLOSED c ++ rest)) refl closedSection _
       (first closedSection _)
@@ -113,7 +113,7 @@ module _ (c : ℕ) (some : 1 ≤ c) (few : c ≤ 2) (rest : List ℕ) where
 
   pub behind-zero : Reached jobText closed-zero
       (within (content NODES 2 [] ∷ content LANES 0 [] ∷ []) closedSection c ((0 ∷ []) ∷ [])
-      (carriersSection ∷ orderSection ∷ [])) rest 5
+      (carriersSection ∷ orderSection ∷ dwellSection ∷ [])) rest 5
   unfolding numbersIn countOf sameWord NODES
   behind-zero =
       past-entry jobText closed-zero (behind-closed (entryLine (0 ∷ []) ++ rest) c some few) (omega arith)

@@ -2,7 +2,7 @@
 -- (rules 7.6 to 7.13 and 8.21). What is shown here of the job text alone is that its words differ, by a test,
 -- and how much room it has, by a sum; the rest are the laws of every form. Assumes nothing.
 --     job-told          the words of a job text are plain and differ
---     job-room          its sections have room for 47,099 bytes
+--     job-room          its sections have room for 47,110 bytes
 --     accepted-as       an accepted text is the written form of the job that its contents say
 --     job-unique        a text is the written form of one job without faults at most
 --     text-unique       a job has one written form
@@ -10,24 +10,19 @@
 --     one-refusal       a text is refused with one number at one line at most
 --     one-answer        every text is accepted or refused
 --     answer-unique     in one way
---     closedRead        the closed nodes' section by its entries; it does not stand with none
---     closed-stands     so it is, where it stands
---     nodes-read, closed-read, carriers-read    what the checks of later sections ask for
---     closed-said, carriers-said    the counts that the contents of a job have
---     fiveSections      the sections of a job text by their entries, that of the closed nodes where it stands
 --     job-read          the job of an accepted text, by the entries of its sections; lanes-counted,
 --                       closed-counted, carriers-counted its counts (rule 7.13)
 --     jobReading        the answer to a text; `job-reading-exactly` it is what the text says
 --     written-read      a job that is written is read as what it was; `read-written` what is read is written
 --                       as the text was
 --     refused-with      a text is refused with 1 to 5, 7, 12 and 13 only
---     accepted-length   an accepted text has at most 47,099 bytes, and so at most 47,132: within-47132
+--     accepted-length   an accepted text has at most 47,110 bytes, and so at most 47,142: within-47142
 --                       (rule 7.6)
---     front-job         the first 47,100 bytes or more of a text say what the text says (rule 7.7), and so do
---                       the first 47,133: first-47133
+--     front-job         the first 47,111 bytes or more of a text say what the text says (rule 7.7), and so do
+--                       the first 47,143: first-47143
 use mathlib.Core.Path.{_≡_, refl, sym, _∙_, ap, subst}
 use mathlib.Core.Logic.{_↔_}
-use mathlib.Core.List.{List, [], _∷_, _++_}
+use mathlib.Core.List.{List, _∷_}
 use Prim.Native.Nat.{ℕ, _≤_, _<_}
 use native.Mathlib.Omega.{arith}
 use lib.ListN.{length, take}
@@ -35,11 +30,11 @@ use Rattle.hall.specs.Floor.{networkOf, laneCount}
 use Rattle.hall.specs.Job.{Numbers, jobOf, moveCount}
 use Rattle.hall.specs.Said.{Said, accepted, refused}
 use Rattle.form.specs.Sections.{Content, content, sameWord, countOf, numbersOf, numbersIn}
-use Rattle.form.specs.Words.{NODES, LANES, CLOSED, CARRIERS, ORDER}
+use Rattle.form.specs.Words.{NODES, LANES, CLOSED, CARRIERS, ORDER, DWELL}
 use Rattle.form.specs.Contents.{written}
 use Rattle.form.specs.Texts.{WrittenForm, Refused, Reads}
 use Rattle.form.specs.JobText.{jobText}
-use Rattle.form.specs.Jobs.{pairs, singles, closedContents, contentsOf, jobIn, WrittenJob, ReadsJob}
+use Rattle.form.specs.Jobs.{dwellContents, contentsOf, jobIn, WrittenJob, ReadsJob}
 use Rattle.form.proofs.Steps.{Told}
 use Rattle.form.proofs.WordTests.{plainTest, differsTest, toldTest, told-by-test}
 use Rattle.form.proofs.Runs.{refusal-unique, not-both, contents-unique}
@@ -48,14 +43,16 @@ use Rattle.form.proofs.Reading.{one-or-other, refusal-numbers}
 use Rattle.form.proofs.Lengths.{room, accepted-room}
 use Rattle.form.proofs.LongTexts.{front-reads}
 use Rattle.form.proofs.WrittenJobs.{lanes-paired, written-sound}
-use Rattle.form.proofs.AcceptedJobs.{job-in-contents, accepted-job}
+use Rattle.form.proofs.JobSections.{carriers-read, jobSections, job-in, closed-count, job-in-contents}
+use Rattle.form.proofs.JobSections.{closed-said, carriers-said}
+use Rattle.form.proofs.AcceptedJobs.{accepted-job}
 
 pub job-told : Told jobText
-unfolding sameWord NODES LANES CLOSED CARRIERS ORDER plainTest differsTest toldTest
+unfolding sameWord NODES LANES CLOSED CARRIERS ORDER DWELL plainTest differsTest toldTest
 job-told = told-by-test jobText tt
 
-pub job-room : room jobText ≡ 47099
-unfolding NODES LANES CLOSED CARRIERS ORDER room
+pub job-room : room jobText ≡ 47110
+unfolding NODES LANES CLOSED CARRIERS ORDER DWELL room
 job-room = refl
 
 -- ---- one answer
@@ -104,113 +101,38 @@ module _ (t : List ℕ) where
   answer-unique (refused n l) (refused m k) x y =
       let e = one-refusal n m l k x y in λ i. refused (e .0 i) (e .1 i)
 
--- ---- the sections of a job text, once they are read
+-- ---- the job of an accepted text, by the entries of its sections
 
-pub nodes-read : (n : ℕ) (none : List (List ℕ)) (more : List Content)
-    → countOf NODES (content NODES n none ∷ more) ≡ n
-unfolding countOf sameWord NODES
-nodes-read n none more = refl
-
-abbrev pub closedRead : (shut : List (List ℕ)) → List Content
-closedRead [] = []
-closedRead (e ∷ es) = content CLOSED (length (e ∷ es)) (e ∷ es) ∷ []
-
-pub closed-stands : (q : ℕ) (shut : List (List ℕ)) → length shut ≡ q → 1 ≤ q
-    → content CLOSED q shut ∷ [] ≡ closedRead shut
-closed-stands q [] e h = absurd (let x : ⊥ = omega arith in x)
-closed-stands q (s ∷ es) e h = ap (λ (k : ℕ). content CLOSED k (s ∷ es) ∷ []) (sym e)
-
-pub closed-read : (n m : ℕ) (none lanes shut : List (List ℕ))
-    → numbersOf CLOSED (content NODES n none ∷ content LANES m lanes ∷ closedRead shut) ≡ numbersIn shut
-unfolding numbersOf numbersIn sameWord NODES LANES CLOSED
-closed-read n m none lanes [] = refl
-closed-read n m none lanes (e ∷ es) = refl
-
-pub carriers-read : (n m k : ℕ) (none lanes shut moves : List (List ℕ)) (more : List Content)
-    → countOf CARRIERS
-    (content NODES n none ∷ content LANES m lanes ∷ (closedRead shut ++ (content CARRIERS k moves ∷ more)))
-    ≡ k
-unfolding countOf sameWord NODES LANES CLOSED CARRIERS
-carriers-read n m k none lanes [] moves more = refl
-carriers-read n m k none lanes (e ∷ es) moves more = refl
-
-abbrev pub fiveSections : (n m k p : ℕ) (none lanes shut moves order : List (List ℕ)) → List Content
-fiveSections n m k p none lanes shut moves order =
-    content NODES n none
-    ∷ content LANES m lanes
-    ∷ (closedRead shut ++ (content CARRIERS k moves ∷ content ORDER p order ∷ []))
-
-job-in : (n m k p : ℕ) (none lanes shut moves order : List (List ℕ))
-    → jobIn (fiveSections n m k p none lanes shut moves order)
-    ≡ jobOf (networkOf n (numbersIn lanes) (numbersIn shut)) (numbersIn moves) (numbersIn order)
-unfolding countOf numbersOf numbersIn sameWord NODES LANES CLOSED CARRIERS ORDER
-job-in n m k p none lanes [] moves order = refl
-job-in n m k p none lanes (e ∷ es) moves order = refl
-
-closed-read-count : (n m k p : ℕ) (none lanes shut moves order : List (List ℕ))
-    → countOf CLOSED (fiveSections n m k p none lanes shut moves order) ≡ length shut
-unfolding countOf sameWord NODES LANES CLOSED CARRIERS ORDER
-closed-read-count n m k p none lanes [] moves order = refl
-closed-read-count n m k p none lanes (e ∷ es) moves order = refl
-
--- what the contents of a job count
-module _ (j : Numbers) where
-  said-with : List ℕ → List Content
-  said-with closed =
-      content NODES (j .network .nodes) []
-      ∷ content LANES (laneCount (j .network .lanes)) (pairs (j .network .lanes))
-      ∷ (closedContents closed
-      ++ (content CARRIERS (moveCount (j .moves)) (pairs (j .moves))
-      ∷ content ORDER (length (j .order)) (singles (j .order))
-      ∷ []))
-
-  closed-with : (closed : List ℕ) → countOf CLOSED (said-with closed) ≡ length closed
-  unfolding said-with countOf sameWord NODES LANES CLOSED CARRIERS ORDER
-  closed-with [] = refl
-  closed-with (v ∷ l) = refl
-
-  carriers-with : (closed : List ℕ) → countOf CARRIERS (said-with closed) ≡ moveCount (j .moves)
-  unfolding said-with countOf sameWord NODES LANES CLOSED CARRIERS
-  carriers-with [] = refl
-  carriers-with (v ∷ l) = refl
-
-  pub closed-said : countOf CLOSED (contentsOf j) ≡ length (j .network .closed)
-  unfolding said-with
-  closed-said = closed-with (j .network .closed)
-
-  pub carriers-said : countOf CARRIERS (contentsOf j) ≡ moveCount (j .moves)
-  unfolding said-with
-  carriers-said = carriers-with (j .network .closed)
-
-module _ (t : List ℕ) (n m k p : ℕ) (none lanes shut moves order : List (List ℕ))
-    (w : WrittenForm jobText t (fiveSections n m k p none lanes shut moves order)) where
-  its : jobIn (fiveSections n m k p none lanes shut moves order)
-      ≡ jobOf (networkOf n (numbersIn lanes) (numbersIn shut)) (numbersIn moves) (numbersIn order)
-  its = job-in n m k p none lanes shut moves order
+module _ (t : List ℕ) (n m k p w : ℕ) (none lanes shut moves order : List (List ℕ))
+    (said : WrittenForm jobText t (jobSections n m k p w none lanes shut moves order)) where
+  its : jobIn (jobSections n m k p w none lanes shut moves order)
+      ≡ jobOf (networkOf n (numbersIn lanes) (numbersIn shut)) (numbersIn moves) (numbersIn order) w
+  its = job-in n m k p w none lanes shut moves order
 
   pub job-read :
-      WrittenJob t (jobOf (networkOf n (numbersIn lanes) (numbersIn shut)) (numbersIn moves) (numbersIn order))
-  job-read = subst (WrittenJob t) its (accepted-as t _ w .0)
+      WrittenJob t
+      (jobOf (networkOf n (numbersIn lanes) (numbersIn shut)) (numbersIn moves) (numbersIn order) w)
+  job-read = subst (WrittenJob t) its (accepted-as t _ said .0)
 
   -- the counts of the sections are those of the lists
   pub lanes-counted : m ≡ laneCount (numbersIn lanes)
   unfolding countOf numbersOf sameWord NODES LANES
   lanes-counted =
-      ap (λ (c : List Content). countOf LANES c) (accepted-as t _ w .1)
+      ap (λ (c : List Content). countOf LANES c) (accepted-as t _ said .1)
       ∙ ap (λ (j : Numbers). laneCount (j .network .lanes)) its
 
   pub closed-counted : length shut ≡ length (numbersIn shut)
   closed-counted =
-      sym (closed-read-count n m k p none lanes shut moves order)
-      ∙ ap (λ (c : List Content). countOf CLOSED c) (accepted-as t _ w .1)
-      ∙ closed-said (jobIn (fiveSections n m k p none lanes shut moves order))
+      sym (closed-count n m k p w none lanes shut moves order)
+      ∙ ap (λ (c : List Content). countOf CLOSED c) (accepted-as t _ said .1)
+      ∙ closed-said (jobIn (jobSections n m k p w none lanes shut moves order))
       ∙ ap (λ (j : Numbers). length (j .network .closed)) its
 
   pub carriers-counted : k ≡ moveCount (numbersIn moves)
   carriers-counted =
-      sym (carriers-read n m k none lanes shut moves (content ORDER p order ∷ []))
-      ∙ ap (λ (c : List Content). countOf CARRIERS c) (accepted-as t _ w .1)
-      ∙ carriers-said (jobIn (fiveSections n m k p none lanes shut moves order))
+      sym (carriers-read n m k none lanes shut moves (content ORDER p order ∷ dwellContents w))
+      ∙ ap (λ (c : List Content). countOf CARRIERS c) (accepted-as t _ said .1)
+      ∙ carriers-said (jobIn (jobSections n m k p w none lanes shut moves order))
       ∙ ap (λ (j : Numbers). moveCount (j .moves)) its
 
 -- ---- the answer alone
@@ -232,13 +154,13 @@ read-written t j e = sym (job-reading-exactly t (accepted j) .0 e .writes)
 
 -- ---- long texts
 
-pub accepted-length : (t : List ℕ) (j : Numbers) → WrittenJob t j → length t ≤ 47099
+pub accepted-length : (t : List ℕ) (j : Numbers) → WrittenJob t j → length t ≤ 47110
 accepted-length t j w = omega (arith, accepted-room jobText t (contentsOf j) (written-sound t j w), job-room)
 
-pub within-47132 : (t : List ℕ) (j : Numbers) → WrittenJob t j → length t ≤ 47132
-within-47132 t j w = omega (arith, accepted-length t j w)
+pub within-47142 : (t : List ℕ) (j : Numbers) → WrittenJob t j → length t ≤ 47142
+within-47142 t j w = omega (arith, accepted-length t j w)
 
-pub front-job : (n : ℕ) → 47100 ≤ n → (t : List ℕ) (s : Said Numbers) → ReadsJob (take n t) s ↔ ReadsJob t s
+pub front-job : (n : ℕ) → 47111 ≤ n → (t : List ℕ) (s : Said Numbers) → ReadsJob (take n t) s ↔ ReadsJob t s
 front-job n long t s = cases s
   where
     more : room jobText < n
@@ -256,5 +178,5 @@ front-job n long t s = cases s
           λ x. same j (iff .1 (written-sound t j x)) x,
         )
 
-pub first-47133 : (t : List ℕ) (s : Said Numbers) → ReadsJob (take 47133 t) s ↔ ReadsJob t s
-first-47133 = front-job 47133 (omega arith)
+pub first-47143 : (t : List ℕ) (s : Said Numbers) → ReadsJob (take 47143 t) s ↔ ReadsJob t s
+first-47143 = front-job 47143 (omega arith)

@@ -5,8 +5,9 @@
 --                   StepTests, Reached, Reading: how a text is decided, line by line
 --                   Lengths, LongTexts, LineNumbers: how long it is, what its first bytes say, its lines
 --     sections      WordTests, Tables, Rows, FirstSections: their words, a reader's table, lists as entries
---     job texts     WrittenJobs, AcceptedJobs, JobTexts, WholeJobs, CarrierLines
---     by bytes      Examples, ClosedExamples
+--     job texts     WrittenJobs, JobSections, AcceptedSections, AcceptedJobs, JobTexts,
+--                   WholeJobs, CarrierLines
+--     by bytes      Examples, ClosedExamples, DwellExamples
 pub mod Cuts
 pub mod LineForms
 pub mod LineTests
@@ -26,9 +27,12 @@ pub mod Tables
 pub mod Rows
 pub mod FirstSections
 pub mod WrittenJobs
+pub mod JobSections
+pub mod AcceptedSections
 pub mod AcceptedJobs
 pub mod JobTexts
 pub mod WholeJobs
 pub mod CarrierLines
 pub mod Examples
 pub mod ClosedExamples
+pub mod DwellExamples

@@ -10,11 +10,12 @@
 --     count-lacking      there is no line of any section that may come next, nor the end; entry-lacking no
 --                        line of an entry
 --     first-lacking      there is no line of the section that must come next
---     left-over          all sections were read, and bytes are left
+--     NoneStands         none of these sections has the line of its count at the front of a text
+--     left-over          no section that is left stands, and there are bytes left
 --     at-end             the text ends where it may
 use mathlib.Core.Path.{_≡_, refl, sym, _∙_, ap, subst}
 use mathlib.Core.Logic.{inl, inr}
-use mathlib.Core.List.{List, [], _∷_, _++_, append-assoc, append-nil, cons≢nil}
+use mathlib.Core.List.{List, [], _∷_, _++_, append-assoc, append-nil}
 use mathlib.Core.Bool.{true, false}
 use Prim.Native.Nat.{ℕ, suc, _+_, _<_}
 use native.Mathlib.Omega.{arith}
@@ -31,6 +32,15 @@ use Rattle.form.specs.Reached.{Reached}
 use Rattle.form.proofs.SoundTexts.{finished-sound}
 use Rattle.form.proofs.Steps.{next-written, next-counted}
 use Rattle.form.proofs.StepTests.{Picked, EntryNext, which}
+
+abbrev pub NoneStands : Form → (rest : List ℕ) → Type 0
+NoneStands [] rest = Unit
+NoneStands (s ∷ left) rest = ¬ Counted (s .word) rest × NoneStands left rest
+
+none-picked : {rest : List ℕ} {more left : Form} {s : Section} → Picks more s left → NoneStands more rest
+    → ¬ Counted (s .word) rest
+none-picked (first s left) none = none .0
+none-picked (past o s more left h p) none = none-picked p (none .1)
 
 module _ (F : Form) (text : List ℕ) where
   pub at-start : Reached F text start text 1
@@ -146,9 +156,6 @@ module _ (F : Form) (text : List ℕ) where
         no-pick (past o _ _ _ h p) c q =
             must-stand (subst (λ (x : Section). x .optional ≡ true) (same-first q) h)
 
-    pub left-over : behind F st ≡ [] → ¬ (rest ≡ []) → Refused F text (numberOf Malformed) line
-    left-over e some = count-lacking r whole (λ p. no-pick (p .picks) e) (λ h. some (h .1))
-      where
-        no-pick : {more left : Form} {s : Section} → Picks more s left → more ≡ [] → ⊥
-        no-pick (first s left) q = cons≢nil q
-        no-pick (past o s more left h p) q = cons≢nil q
+    pub left-over : NoneStands (behind F st) rest → ¬ (rest ≡ []) → Refused F text (numberOf Malformed) line
+    left-over none some =
+        count-lacking r whole (λ p. none-picked (p .picks) none (p .counted)) (λ h. some (h .1))

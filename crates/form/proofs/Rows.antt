@@ -5,7 +5,8 @@
 --                                   entries; ..-rows each has its numbers
 --     rows-pairs, rows-singles      entries with two numbers each, or one, are those of their numbers
 --     pairs-next, singles-next      the entries of the first numbers, and one entry more
---     pairs-whole                   an odd last number is in no entry, so that the list without it has the same
+--     pairs-whole                   an odd last number is in no entry, so that the list without it has the
+--                                   same
 --     small-by                      a list's numbers are small, by their places
 --     whole-section, section-whole  a section without a fault, by the checks of its whole list
 use mathlib.Core.Path.{_≡_, refl, ap}

@@ -5,7 +5,7 @@
 --     whole-paired     moves that go by twos are whole
 --     whole-contents   a job and its whole one say the same, and so have one text
 --     whole-written    the text of a job is the written form of its whole one
---     written-length   it has at most 47,099 bytes, and so fits into 47,132: written-fits (rule 7.6)
+--     written-length   it has at most 47,110 bytes, and so fits into 47,142: written-fits (rule 7.6)
 use mathlib.Core.Path.{_≡_, refl, sym, _∙_, ap}
 use mathlib.Core.List.{List}
 use Prim.Native.Nat.{ℕ, _+_, _*_, _≤_, _<_}
@@ -49,6 +49,7 @@ module _ (j : Numbers) where
       let count = whole-count (j .moves) in
       record {
         network-is = w .network-is;
+        dwell-few = w .dwell-few;
         carrier-count = omega (arith, w .carrier-count);
         ends-on =
             record {
@@ -77,7 +78,7 @@ module _ (j : Numbers) where
       paired = omega (arith, whole-length (j .moves));
     }
 
-    pub written-length : length (textOf j) ≤ 47099
+    pub written-length : length (textOf j) ≤ 47110
     written-length = accepted-length (textOf j) (wholeJob j) whole-written
 
     pub written-fits : length (textOf j) ≤ textRoom

@@ -1,7 +1,7 @@
 -- What the text of a job without the faults of its listed checks says is without a fault, so that it is
 -- accepted. The sections are put one behind the other from the last to the first, each by the checks of its
--- whole list; that of the closed nodes is passed over where nothing is closed. Assumes nothing but that the
--- moves have two numbers each.
+-- whole list; that of the closed nodes is passed over where nothing is closed, and that of the dwell where it
+-- is 0. Assumes nothing but that the moves have two numbers each.
 --     lanes-paired      lanes without the fault 2 go by twos
 --     nodes-fit, lanes-few, closed-few    the counts of such a job are within their limits
 --     small-lanes, small-closed, small-moves    its numbers have a written form
@@ -10,26 +10,27 @@
 use mathlib.Core.Path.{_≡_, refl, sym, _∙_, subst}
 use mathlib.Core.Logic.{inl, inr}
 use mathlib.Core.List.{List, [], _∷_, _++_}
-use Prim.Native.Nat.{ℕ, _+_, _*_, _/_, _%_, _≤_, _<_}
+use Prim.Native.Nat.{ℕ, zero, suc, _+_, _*_, _/_, _%_, _≤_, _<_}
 use native.Mathlib.Decide.{ℕ-discrete}
 use native.Mathlib.Omega.{arith}
 use lib.ListN.{length, getD}
-use Rattle.hall.specs.Limits.{nodeLimit, laneLimit, carrierLimit}
+use Rattle.hall.specs.Limits.{nodeLimit, laneLimit, carrierLimit, dwellLimit}
 use Rattle.hall.specs.Floor.{laneCount, lower, higher}
 use Rattle.hall.specs.Job.{Numbers, moveCount, startIn, goalIn}
 use Rattle.hall.specs.Job as job
 use Rattle.hall.specs.Stages.{None, ClearAt}
 use Rattle.hall.specs.Refusals.{LaneFault, no-node, ClosedFault, no-such-node, no-carrier}
 use Rattle.hall.specs.Questions.{moveChecks, orderChecks, checksQuestion}
-use Rattle.hall.proofs.Sound.{Denied, denied-checks, nodes-limit, carriers-limit, order-length}
+use Rattle.hall.proofs.Sound.{Denied, denied-checks, nodes-limit, carriers-limit, dwell-within, order-length}
 use Rattle.form.specs.Lines.{Small}
-use Rattle.form.specs.Sections.{Form, Content, content, sameWord, countOf, numbersOf}
+use Rattle.form.specs.Sections.{Section, Form, Content, content, sameWord, countOf, numbersOf}
+use Rattle.form.specs.Sections.{CountFits, due}
 use Rattle.form.specs.Words.{NODES, LANES, CLOSED, CARRIERS, ORDER}
 use Rattle.form.specs.Contents.{first, Sound, over, stands}
 use Rattle.form.specs.Texts.{WrittenForm}
 use Rattle.form.specs.JobText.{nodesSection, lanesSection, closedSection, carriersSection}
-use Rattle.form.specs.JobText.{orderSection, jobText}
-use Rattle.form.specs.Jobs.{pairs, singles, closedContents, contentsOf, WrittenJob}
+use Rattle.form.specs.JobText.{orderSection, dwellSection, jobText}
+use Rattle.form.specs.Jobs.{pairs, singles, closedContents, dwellContents, contentsOf, WrittenJob}
 use Rattle.form.proofs.Checks.{lanes-steady, closed-steady, carriers-steady, order-steady}
 use Rattle.form.proofs.Rows.{ByTwos, small-by, pairs-back, pairs-count, pairs-rows, singles-back}
 use Rattle.form.proofs.Rows.{singles-count, singles-rows, whole-section}
@@ -51,12 +52,13 @@ node-small n a few h = omega arith
 -- ---- each section, before the others
 
 module _ (read cs : List Content) (left : Form) where
-  nodes-sound : (n : ℕ) → (1 ≤ n) × (n ≤ nodeLimit) → Sound (read ++ (content NODES n [] ∷ [])) left cs
-      → Sound read (nodesSection ∷ left) (content NODES n [] ∷ cs)
-  nodes-sound n fits rest =
-      let h = fits .1 in
-      stands read (nodesSection ∷ left) left nodesSection n [] cs (first nodesSection left)
-      (record { small = omega arith; fits = fits; counted = refl; passes = tt }) rest
+  -- a section of one line
+  line-sound : (s : Section) (n : ℕ) → n < 10000 → CountFits (s .limits) read n → 0 ≡ due s n
+      → Sound (read ++ (content (s .word) n [] ∷ [])) left cs
+      → Sound read (s ∷ left) (content (s .word) n [] ∷ cs)
+  line-sound s n small fits alone rest =
+      stands read (s ∷ left) left s n [] cs (first s left)
+      (record { small = small; fits = fits; counted = alone; passes = tt }) rest
 
   lanes-sound : (l : List ℕ) → ByTwos l → Small l → laneCount l ≤ laneLimit
       → ((k : ℕ) → k < laneCount l → ¬ LaneFault (countOf NODES read) l k)
@@ -101,6 +103,11 @@ module _ (read cs : List Content) (left : Form) where
       (whole-section read orderSection (length l) (singles l) order-steady l (singles-back l)
       (singles-rows l small) (omega arith) (omega arith, omega arith) n
       (λ p b. fine p (omega arith))) rest
+
+dwell-sound : (read : List Content) (w : ℕ) → w ≤ dwellLimit → Sound read (dwellSection ∷ []) (dwellContents w)
+dwell-sound read zero few = passed-over dwellSection refl (over read [] tt)
+dwell-sound read (suc w) few =
+    line-sound read [] [] dwellSection (suc w) (omega arith) (omega arith, omega arith) refl (over _ [] tt)
 
 -- ---- the whole
 
@@ -159,30 +166,30 @@ module _ (j : Numbers) (sound : None (checksQuestion j)) where
     carriers-on : (read : List Content) → countOf NODES read ≡ j .network .nodes
         → numbersOf CLOSED read ≡ j .network .closed
         → ((c : Content) → countOf CARRIERS (read ++ (c ∷ [])) ≡ countOf CARRIERS (c ∷ []))
-        → Sound read (carriersSection ∷ orderSection ∷ [])
+        → Sound read (carriersSection ∷ orderSection ∷ dwellSection ∷ [])
         (content CARRIERS (job.carriers j) (pairs (j .moves))
         ∷ content ORDER (length (j .order)) (singles (j .order))
-        ∷ [])
+        ∷ dwellContents (j .dwell))
     unfolding countOf sameWord CARRIERS
     carriers-on read n c none =
         let counts : countOf CARRIERS (read ++ (content CARRIERS (job.carriers j) (pairs (j .moves)) ∷ []))
         ≡ job.carriers j = none (content CARRIERS (job.carriers j) (pairs (j .moves))) in
         carriers-sound read _ _ (j .moves) paired (small-moves paired) (carriers-limit j sound)
         (λ i b. rw (n, c) (facts .off-floor i b, (facts .same-ends i b, (facts .closed-end i b, tt))))
-        (order-sound _ _ [] (j .order) small-order (order-length j sound ∙ sym counts)
+        (order-sound _ _ _ (j .order) small-order (order-length j sound ∙ sym counts)
         (omega (arith, order-length j sound, carriers-limit j sound))
-        (λ p b. rw counts (facts .bad-order p b, tt)) (over _ [] tt))
+        (λ p b. rw counts (facts .bad-order p b, tt)) (dwell-sound _ (j .dwell) (dwell-within j sound)))
 
     closed-on : (l : List ℕ) → l ≡ j .network .closed
         → Sound
         (content NODES (j .network .nodes) []
         ∷ content LANES (laneCount (j .network .lanes)) (pairs (j .network .lanes))
         ∷ [])
-        (closedSection ∷ carriersSection ∷ orderSection ∷ [])
+        (closedSection ∷ carriersSection ∷ orderSection ∷ dwellSection ∷ [])
         (closedContents l
         ++ (content CARRIERS (job.carriers j) (pairs (j .moves))
         ∷ content ORDER (length (j .order)) (singles (j .order))
-        ∷ []))
+        ∷ dwellContents (j .dwell)))
     unfolding countOf numbersOf sameWord NODES LANES CLOSED CARRIERS
     closed-on [] e = passed-over closedSection refl (carriers-on _ refl e (λ c. refl))
     closed-on (v ∷ l) e =
@@ -195,7 +202,8 @@ module _ (j : Numbers) (sound : None (checksQuestion j)) where
     pub contents-sound : Sound [] jobText (contentsOf j)
     unfolding countOf sameWord NODES LANES
     contents-sound =
-        nodes-sound [] _ _ (j .network .nodes) nodes-fit
+        let few = nodes-fit .1 in
+        line-sound [] _ _ nodesSection (j .network .nodes) (omega arith) nodes-fit refl
         (lanes-sound _ _ _ (j .network .lanes) lanes-paired small-lanes lanes-few (facts .network .lane)
         (closed-on (j .network .closed) refl))
 

@@ -1,5 +1,5 @@
--- What a text says, its written form, and when it has no fault, section by section (rules 7.1, 7.9, 7.17, 8.2
--- to 8.7, 8.12 and 8.13).
+-- What a text says, its written form, and when it has no fault, section by section (rules 7.1, 7.9, 7.17,
+-- 7.18, 8.2 to 8.7, 8.12 and 8.13).
 --     written        the written form of contents
 --     lineCount      how many lines it has
 --     Picks          Picks more s left: of the sections `more` the section s may come next, which is the

@@ -1,7 +1,8 @@
--- The text of a job (rules 7.1, 7.10, 7.13, 7.15, 7.17 and 8.21).
+-- The text of a job (rules 7.1, 7.10, 7.13, 7.15, 7.17, 7.18 and 8.21).
 --     pairs          a list as entries of two numbers; an odd last number is no entry
 --     singles        a list as entries of one number
 --     closedContents what it says of closed nodes: nothing where there are none
+--     dwellContents  what it says of the dwell: nothing where it is 0
 --     contentsOf     what the text of a job says, section by section
 --     textOf         the text of a job: the written form of what it says. Reading and writing both speak of
 --                    it
@@ -20,7 +21,7 @@
 use mathlib.Core.Path.{_≡_}
 use mathlib.Core.Bool.{cond}
 use mathlib.Core.List.{List, [], _∷_, _++_}
-use Prim.Native.Nat.{ℕ, suc, _+_, _*_}
+use Prim.Native.Nat.{ℕ, zero, suc, _+_, _*_}
 use lib.ListN.{length, take}
 use Rattle.hall.specs.Floor.{laneCount, networkOf}
 use Rattle.hall.specs.Job.{Numbers, jobOf, moveCount}
@@ -29,7 +30,7 @@ use Rattle.hall.specs.Stages.{None}
 use Rattle.hall.specs.Said.{Said, accepted, refused}
 use Rattle.hall.specs.Questions.{checksQuestion}
 use Rattle.form.specs.Sections.{Content, content, sameWord, countOf, numbersOf}
-use Rattle.form.specs.Words.{NODES, LANES, CLOSED, CARRIERS, ORDER}
+use Rattle.form.specs.Words.{NODES, LANES, CLOSED, CARRIERS, ORDER, DWELL}
 use Rattle.form.specs.Contents.{written}
 use Rattle.form.specs.Texts.{Refused}
 use Rattle.form.specs.JobText.{jobText}
@@ -47,6 +48,10 @@ abbrev pub closedContents : List ℕ → List Content
 closedContents [] = []
 closedContents (v ∷ l) = content CLOSED (length (v ∷ l)) (singles (v ∷ l)) ∷ []
 
+abbrev pub dwellContents : ℕ → List Content
+dwellContents zero = []
+dwellContents (suc w) = content DWELL (suc w) [] ∷ []
+
 abbrev pub contentsOf : Numbers → List Content
 contentsOf j =
     content NODES (j .network .nodes) []
@@ -54,7 +59,7 @@ contentsOf j =
     ∷ (closedContents (j .network .closed)
     ++ (content CARRIERS (job.carriers j) (pairs (j .moves))
     ∷ content ORDER (length (j .order)) (singles (j .order))
-    ∷ []))
+    ∷ dwellContents (j .dwell)))
 
 abbrev pub textOf : Numbers → List ℕ
 textOf j = written (contentsOf j)
@@ -64,12 +69,13 @@ jobIn c =
     jobOf (networkOf (countOf NODES c) (numbersOf LANES c) (numbersOf CLOSED c))
     (numbersOf CARRIERS c)
     (numbersOf ORDER c)
+    (countOf DWELL c)
 
 abbrev pub wholeMoves : List ℕ → List ℕ
 wholeMoves moves = take (2 * moveCount moves) moves
 
 abbrev pub wholeJob : Numbers → Numbers
-wholeJob j = jobOf (j .network) (wholeMoves (j .moves)) (j .order)
+wholeJob j = jobOf (j .network) (wholeMoves (j .moves)) (j .order) (j .dwell)
 
 pub record WrittenJob (text : List ℕ) (j : Numbers) : Type 0 where
   pub writes : text ≡ textOf j

@@ -1,4 +1,4 @@
--- The words of the sections, by their letters' bytes (rules 7.1 and 7.17).
+-- The words of the sections, by their letters' bytes (rules 7.1, 7.17 and 7.18).
 use mathlib.Core.List.{List, [], _∷_}
 use Prim.Native.Nat.{ℕ}
 
@@ -16,3 +16,6 @@ CARRIERS = 67 ∷ 65 ∷ 82 ∷ 82 ∷ 73 ∷ 69 ∷ 82 ∷ 83 ∷ []
 
 unfoldable pub ORDER : List ℕ
 ORDER = 79 ∷ 82 ∷ 68 ∷ 69 ∷ 82 ∷ []
+
+unfoldable pub DWELL : List ℕ
+DWELL = 68 ∷ 87 ∷ 69 ∷ 76 ∷ 76 ∷ []

@@ -6,6 +6,7 @@
 --     job k         the job of line k of the table, from 0
 --     TruePair k    what holds of every pair of true distances of the first two carriers
 use mathlib.Core.Path.{_≡_, refl, sym, _∙_, ap}
+use mathlib.Core.Logic.{inl}
 use mathlib.Core.List.{List, [], _∷_}
 use Prim.Native.Nat.{ℕ, suc, _+_, _<_}
 use native.Mathlib.Omega.{arith}
@@ -17,7 +18,7 @@ use Rattle.hall.specs.Stages.{None}
 use Rattle.hall.specs.Questions.{jobQuestion}
 use Rattle.hall.specs.Rule.{Pair, lead-i, lead-j, gap}
 use Rattle.hall.specs.Ticks.{Tables, pairOf, total}
-use Rattle.hall.specs.Path.{PathOf, ShortestPath, Meet, Cross}
+use Rattle.hall.specs.Path.{PathOf, ShortestPath, At, Meet, Cross}
 use Rattle.hall.specs.Plan.{TablesOf}
 use Rattle.hall.specs.Case.{cases, line4}
 use Rattle.hall.proofs.Walks.{true-distance}
@@ -81,20 +82,32 @@ P4-paths = (
     labels : Labelled (job 3)
     labels = labelled? (job 3) .sound tt
 
-pub P4-would-cross : Cross there 0 back 0
+-- without dwell a carrier that starts at tick 0 has gone as many lanes as ticks are over
+on-the-way : {l : List ℕ} {x v : ℕ} (n : ℕ) → n ≡ x → n < length l → getD l n 0 ≡ v → At 0 l 0 x v
+on-the-way n e h at = record {
+  gone = n;
+  stood = 0;
+  time = omega arith;
+  on-floor = h;
+  waits-at-goal = inl refl;
+  within-dwell = omega arith;
+  node = at;
+}
+
+pub P4-would-cross : Cross 0 there 0 back 0
 P4-would-cross = record {
   tick = 1;
   node = 1;
   other = 2;
   different = λ e. omega arith;
-  first-before = record { gone = 1; time = refl; on-floor = omega arith; node = refl };
-  first-after = record { gone = 2; time = refl; on-floor = omega arith; node = refl };
-  second-before = record { gone = 1; time = refl; on-floor = omega arith; node = refl };
-  second-after = record { gone = 2; time = refl; on-floor = omega arith; node = refl };
+  first-before = on-the-way 1 refl (omega arith) refl;
+  first-after = on-the-way 2 refl (omega arith) refl;
+  second-before = on-the-way 1 refl (omega arith) refl;
+  second-after = on-the-way 2 refl (omega arith) refl;
 }
 
-pub P4-would-not-meet : ¬ Meet there 0 back 0
+pub P4-would-not-meet : ¬ Meet 0 there 0 back 0
 P4-would-not-meet m = all? (λ k. not? (eq? (getD there k 0) (getD back k 0))) 4 .sound tt (m .first .gone) (m .first .on-floor) (m .first .node ∙ sym (m .second .node) ∙ ap (λ k. getD back k 0) same)
   where
     same : m .second .gone ≡ m .first .gone
-    same = omega (arith, m .first .time, m .second .time)
+    same = omega (arith, m .first .time, m .second .time, m .first .within-dwell, m .second .within-dwell)

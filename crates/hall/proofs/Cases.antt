@@ -1,19 +1,19 @@
--- The cases P1 to P11, of shared ends and of closed nodes hold, the outcomes that easy errors would give do
--- not (rule 11.13), and where several faults hold of a job the order of the checks decides (rule 8.22): each
--- is one table, by one test of a job with an outcome. A line of a table costs no proof of its own. Assumes
--- nothing.
+-- The cases P1 to P11, of shared ends, of closed nodes and of carriers that wait hold, the outcomes that easy
+-- errors would give do not (rules 11.13 and 11.17), and where several faults hold of a job the order of the
+-- checks decides (rule 8.22): each is one table, by one test of a job with an outcome. A line of a table
+-- costs no proof of its own. Assumes nothing.
 --     cases           P1 to P11; shared-cases carriers that share an end; closed-cases halls with closed
---                     nodes (specs/Case.antt)
---     wrong-cases     a job with an outcome that a planner with that error may give: for P8, P4 and P7 the
---                     one that the rule names
+--                     nodes; dwell-cases carriers that wait (specs/Case.antt)
+--     wrong-cases     a job with an outcome that a planner with that error may give: the one that the rule
+--                     names, where it names one
 --     refusal-cases   jobs at a limit, and jobs with several faults and the first of them
 use mathlib.Core.List.{List, [], _∷_}
 use Prim.Native.Nat.{ℕ, _<_}
 use lib.ListN.{length, getD, replicate}
 use Rattle.hall.specs.Ticks.{total}
 use Rattle.hall.specs.Said.{refused}
-use Rattle.hall.specs.Case.{planned, Case, Holds, case, case-closed, cases, shared-cases, closed-cases}
-use Rattle.hall.specs.Case.{line2, line4, line5, six-lanes, two-rows}
+use Rattle.hall.specs.Case.{planned, Case, Holds, case, case-closed, case-dwell, cases, shared-cases}
+use Rattle.hall.specs.Case.{closed-cases, dwell-cases, line2, line4, line5, six-lanes, square, two-rows}
 use Rattle.hall.proofs.Test.{Test, not?, _then?_, all?}
 use Rattle.hall.proofs.JobTests.{Labelled, labelled?, gives?}
 
@@ -46,7 +46,13 @@ pub all-closed-cases : (k : ℕ) → k < length closed-cases → Holds (getD clo
 unfolding closed-cases total
 all-closed-cases k h = all? (λ k. right? (getD closed-cases k no-case)) (length closed-cases) .sound tt k h .1
 
--- ---- errors that come easily (rule 11.13)
+-- ---- carriers that wait (rule 11.16)
+
+pub all-dwell-cases : (k : ℕ) → k < length dwell-cases → Holds (getD dwell-cases k no-case)
+unfolding dwell-cases total
+all-dwell-cases k h = all? (λ k. right? (getD dwell-cases k no-case)) (length dwell-cases) .sound tt k h .1
+
+-- ---- errors that come easily (rules 11.13 and 11.17)
 
 unfoldable pub wrong-cases : List Case
 wrong-cases =
@@ -73,6 +79,19 @@ wrong-cases =
     ∷ case-closed 6 two-rows (1 ∷ []) (0 ∷ 2 ∷ []) (0 ∷ []) (planned (0 ∷ []) 2)
     ∷ case-closed 2 line2 (0 ∷ []) (0 ∷ 1 ∷ []) (0 ∷ []) (planned (0 ∷ []) 1)
     ∷ case-closed 2 line2 (1 ∷ []) (0 ∷ 1 ∷ []) (0 ∷ []) (refused 8 0)
+    -- a carrier that is gone after its goal tick: P8 with dwell 2 as without; and the wait in the cost
+    ∷ case-dwell 5 line5 (0 ∷ 4 ∷ 4 ∷ 0 ∷ 2 ∷ 1 ∷ []) (0 ∷ 1 ∷ 2 ∷ []) 2 (planned (0 ∷ 5 ∷ 3 ∷ []) 17)
+    ∷ case-dwell 5 line5 (0 ∷ 4 ∷ 4 ∷ 0 ∷ 2 ∷ 1 ∷ []) (0 ∷ 1 ∷ 2 ∷ []) 2 (planned (0 ∷ 7 ∷ 5 ∷ []) 27)
+    -- only the upper end of the stretch moved: 2 to 4, and tick 0 free; only the lower: −6 to 4, and tick 5
+    ∷ case-dwell 4 line4 (0 ∷ 3 ∷ 2 ∷ 3 ∷ []) (0 ∷ 1 ∷ []) 2 (planned (0 ∷ 0 ∷ []) 4)
+    ∷ case-dwell 5 line5 (0 ∷ 4 ∷ 4 ∷ 0 ∷ []) (0 ∷ 1 ∷ []) 2 (planned (0 ∷ 5 ∷ []) 13)
+    -- the exception kept with dwell, at the ends as they were or as they are moved
+    ∷ case-dwell 4 six-lanes (0 ∷ 1 ∷ 2 ∷ 3 ∷ []) (0 ∷ 1 ∷ []) 1 (planned (0 ∷ 0 ∷ []) 2)
+    ∷ case-dwell 4 six-lanes (0 ∷ 1 ∷ 2 ∷ 3 ∷ []) (0 ∷ 1 ∷ []) 2 (planned (0 ∷ 2 ∷ []) 4)
+    -- a stretch taken for empty before it is widened
+    ∷ case-dwell 4 square (0 ∷ 1 ∷ 2 ∷ 3 ∷ []) (0 ∷ 1 ∷ []) 1 (planned (0 ∷ 0 ∷ []) 2)
+    -- a dwell of 256 let through
+    ∷ case-dwell 2 line2 (0 ∷ 1 ∷ []) (0 ∷ []) 256 (planned (0 ∷ []) 1)
     ∷ []
 
 pub no-wrong-case : (k : ℕ) → k < length wrong-cases → ¬ Holds (getD wrong-cases k no-case)
@@ -92,6 +111,11 @@ refusal-cases =
     ∷ case 0 (0 ∷ []) [] (0 ∷ []) (refused 2 0)
     ∷ case 2 (1 ∷ 0 ∷ 0 ∷ []) [] (0 ∷ []) (refused 2 1)
     ∷ case 2 (1 ∷ 0 ∷ []) [] (0 ∷ []) (refused 2 3)
+    -- a dwell of 256 gives 2 at place 5: behind the order's count, before a lane; 255 is none too long
+    ∷ case-dwell 2 line2 [] [] 256 (refused 2 5)
+    ∷ case-dwell 2 line2 (0 ∷ 1 ∷ []) [] 256 (refused 2 3)
+    ∷ case-dwell 2 (1 ∷ 0 ∷ []) [] [] 256 (refused 2 5)
+    ∷ case-dwell 2 (1 ∷ 0 ∷ []) [] [] 255 (refused 3 0)
     -- 65 carriers give 2
     ∷ case 1 [] (replicate 130 0) (replicate 65 0) (refused 2 2)
     -- lane `1 0` gives 3, before a start that is no node; a lane that stands twice

@@ -15,7 +15,7 @@ use Rattle.hall.specs.Limits.{carrierLimit}
 use Rattle.hall.specs.Floor.{Network}
 use Rattle.hall.specs.Job.{jobOf, moveCount}
 use Rattle.hall.specs.Stages.{Stage, Question, None}
-use Rattle.hall.specs.Questions.{nodesCount, lanesCount, closedCount, carriersCount, orderCount, counts}
+use Rattle.hall.specs.Questions.{nodesCount, lanesCount, closedCount, carriersCount, orderCount, dwellCount, counts}
 use Rattle.hall.specs.Questions.{eachLane, eachClosed, eachMove, eachOrderPlace, checksQuestion}
 use Rattle.hall.proofs.Compose.{first-before, first-cut, _⇒_, ⇒-append, ⇒-stage}
 use Rattle.hall.proofs.Compose.{alike-none, alike-check}
@@ -29,7 +29,7 @@ pub ⇒-behind : (s : Stage) {a b : Question} → a ⇒ b → s ∷ a ⇒ s ∷ 
 
 -- ---- questions that begin with the counts
 
-module _ (nodes numbers closed : ℕ) where
+module _ (nodes numbers closed dwell : ℕ) where
   abbrev upToCarriers : ℕ → Question
   upToCarriers k = nodesCount nodes ∷ lanesCount numbers ∷ closedCount closed ∷ carriersCount k ∷ []
 
@@ -38,7 +38,7 @@ module _ (nodes numbers closed : ℕ) where
   too-many many none = none-asked (none-asked (none-asked (none-asked none .1) .1) .1) .0 many
 
   module _ (k order : ℕ) (a : Question) (many : carrierLimit < k) where
-    pub crowded : ¬ None (counts nodes numbers closed k order ++ a)
+    pub crowded : ¬ None (counts nodes numbers closed k order dwell ++ a)
     crowded = too-many many
 
     module _ (k′ order′ : ℕ) (b : Question) (many′ : carrierLimit < k′) where
@@ -47,17 +47,18 @@ module _ (nodes numbers closed : ℕ) where
           ⇒-append (nodesCount nodes ∷ lanesCount numbers ∷ closedCount closed ∷ []) (carriersCount k ∷ []) ⇒-same
           (⇒-stage (alike-check alike-none refl (λ p. (λ x. (x .0, many′), λ x. (x .0, many)))))
 
-      pub crowded-alike : counts nodes numbers closed k order ++ a ⇒ counts nodes numbers closed k′ order′ ++ b
+      pub crowded-alike :
+          counts nodes numbers closed k order dwell ++ a ⇒ counts nodes numbers closed k′ order′ dwell ++ b
       crowded-alike = record {
         firsts = λ f p h.
-            first-before (orderCount order′ k′ ∷ b)
-            (up-to-alike .firsts f p (first-cut (upToCarriers k) (orderCount order k ∷ a) (too-many many) h));
+            first-before (orderCount order′ k′ ∷ dwellCount dwell ∷ b)
+            (up-to-alike .firsts f p (first-cut (upToCarriers k) (orderCount order k ∷ dwellCount dwell ∷ a) (too-many many) h));
         nones = λ none. absurd (crowded none);
       }
 
 -- ---- jobs
 
-module _ (N : Network) (moves order : List ℕ) (a : Question) (many : carrierLimit < moveCount moves) where
+module _ (N : Network) (moves order : List ℕ) (dwell : ℕ) (a : Question) (many : carrierLimit < moveCount moves) where
   -- what is asked after the counts
   abbrev rest : (moves order : List ℕ) (a : Question) → Question
   rest moves order a =
@@ -67,12 +68,12 @@ module _ (N : Network) (moves order : List ℕ) (a : Question) (many : carrierLi
       ∷ eachOrderPlace (moveCount moves) order
       ∷ a
 
-  pub crowded-job : ¬ None (checksQuestion (jobOf N moves order) ++ a)
-  crowded-job = too-many (N .nodes) (length (N .lanes)) (length (N .closed)) many
+  pub crowded-job : ¬ None (checksQuestion (jobOf N moves order dwell) ++ a)
+  crowded-job = too-many (N .nodes) (length (N .lanes)) (length (N .closed)) dwell many
 
   pub crowded-job-alike : (moves′ order′ : List ℕ) (b : Question) → carrierLimit < moveCount moves′
-      → checksQuestion (jobOf N moves order) ++ a ⇒ checksQuestion (jobOf N moves′ order′) ++ b
+      → checksQuestion (jobOf N moves order dwell) ++ a ⇒ checksQuestion (jobOf N moves′ order′ dwell) ++ b
   crowded-job-alike moves′ order′ b =
-      crowded-alike (N .nodes) (length (N .lanes)) (length (N .closed))
+      crowded-alike (N .nodes) (length (N .lanes)) (length (N .closed)) dwell
       (moveCount moves) (length order) (rest moves order a) many
       (moveCount moves′) (length order′) (rest moves′ order′ b)

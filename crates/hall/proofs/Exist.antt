@@ -1,7 +1,7 @@
 -- Every job without faults has a plan, so nothing is promised of the empty set. The distances exist on at
 -- most 1,024 nodes, and each own distance is one since fault 8 does not hold; of the listed checks the proof
 -- uses the node count and the listing alone (Sound.antt). It can be decided whether a tick is permitted
--- against the carriers placed before, and one tick after their latest goal tick is permitted, so there is a
+-- against the carriers placed before, and one tick after their latest last tick is permitted, so there is a
 -- smallest permitted tick. The ticks are then made place by place: since no carrier stands twice in the
 -- order, giving the next carrier its tick changes none of the earlier ones. Assumes nothing.
 --     TicksUpTo      the ticks of the carriers at the first n places are the smallest permitted
@@ -19,9 +19,9 @@ use Rattle.hall.specs.Job.{Numbers, carriers, start, goal}
 use Rattle.hall.specs.Limits.{nodeLimit}
 use Rattle.hall.specs.Stages.{None}
 use Rattle.hall.specs.Questions.{jobQuestion}
-use Rattle.hall.specs.Ticks.{SmallestFrom, PermittedBy, Tables, own, pairOf, PermittedAt, StartTicks, goalTick, latest, costOf}
+use Rattle.hall.specs.Ticks.{SmallestFrom, PermittedBy, Tables, own, pairOf, PermittedAt, StartTicks, lastTick, latest, costOf}
 use Rattle.hall.specs.Plan.{TablesOf, Plan}
-use Rattle.hall.proofs.Ticks.{past-goal, latest-bounds, carry}
+use Rattle.hall.proofs.Ticks.{past-last, latest-bounds, carry}
 use Rattle.hall.proofs.Sound.{Listing, listing, checks-of-none, walks-of-none, nodes-limit}
 use Rattle.hall.proofs.Lowest.{dec-and, lowest-of}
 use Rattle.hall.proofs.Test.{dec}
@@ -51,25 +51,27 @@ unfolding put
 put-else c d x y (yes e) h = absurd (h e)
 put-else c d x y (no e) h = omega arith
 
-module _ (t : Tables) (order : List ℕ) where
+module _ (w : ℕ) (t : Tables) (order : List ℕ) where
   abbrev at : ℕ → ℕ
   at q = getD order q 0
 
-  pub smallest-at : (tick : ℕ → ℕ) (q : ℕ) → (x : ℕ) × SmallestFrom 0 (PermittedAt t order tick q) x
+  pub smallest-at : (tick : ℕ → ℕ) (q : ℕ) → (x : ℕ) × SmallestFrom 0 (PermittedAt w t order tick q) x
   unfolding PermittedBy
   smallest-at tick q =
-      smallest-exists 0 (λ x. dec (permitted-by? q (λ p. pairOf t (at p) (at q)) (λ p. tick (at p)) x)) (latest order (goalTick t tick) q + 1) zero-le
-      (λ p l. past-goal (pairOf t (at p) (at q)) (tick (at p)) (latest order (goalTick t tick) q + 1) (omega (arith, latest-bounds t order tick q p l)))
+      smallest-exists 0 (λ x. dec (permitted-by? w q (λ p. pairOf t (at p) (at q)) (λ p. tick (at p)) x))
+      (latest order (lastTick w t tick) q + 1) zero-le
+      (λ p l. past-last w (pairOf t (at p) (at q)) (tick (at p)) (latest order (lastTick w t tick) q + 1)
+      (omega (arith, latest-bounds order (lastTick w t tick) q p l)))
 
   abbrev TicksUpTo : ℕ → (ℕ → ℕ) → Type 0
-  TicksUpTo n tick = (q : ℕ) → q < n → SmallestFrom 0 (PermittedAt t order tick q) (tick (at q))
+  TicksUpTo n tick = (q : ℕ) → q < n → SmallestFrom 0 (PermittedAt w t order tick q) (tick (at q))
 
   -- ticks that agree at the places up to q fit there alike
-  smallest-same : (u v : ℕ → ℕ) (q : ℕ) → ((p : ℕ) → p ≤ q → u (at p) ≡ v (at p)) → SmallestFrom 0 (PermittedAt t order u q) (u (at q)) → SmallestFrom 0 (PermittedAt t order v q) (v (at q))
-  smallest-same u v q e s = subst (SmallestFrom 0 (PermittedAt t order v q)) (e q (le-refl q)) (record {
+  smallest-same : (u v : ℕ → ℕ) (q : ℕ) → ((p : ℕ) → p ≤ q → u (at p) ≡ v (at p)) → SmallestFrom 0 (PermittedAt w t order u q) (u (at q)) → SmallestFrom 0 (PermittedAt w t order v q) (v (at q))
+  smallest-same u v q e s = subst (SmallestFrom 0 (PermittedAt w t order v q)) (e q (le-refl q)) (record {
     not-before = s .not-before;
-    permitted = carry t order u v q (u (at q)) (λ p l. e p (omega arith)) (s .permitted);
-    least = λ y a f. s .least y a (carry t order v u q y (λ p l. sym (e p (omega arith))) f);
+    permitted = carry w t order u v q (u (at q)) (λ p l. e p (omega arith)) (s .permitted);
+    least = λ y a f. s .least y a (carry w t order v u q y (λ p l. sym (e p (omega arith))) f);
   })
 
   module _ (once : (p q : ℕ) → p < length order → q < length order → at p ≡ at q → p ≡ q) where
@@ -88,22 +90,22 @@ module _ (t : Tables) (order : List ℕ) where
         newest : x ≡ more (at n)
         newest = let r = put-here (at n) (at n) x (tick (at n)) (ℕ-discrete (at n) (at n)) (omega arith) in omega arith
 
-        last : SmallestFrom 0 (PermittedAt t order more n) (more (at n))
-        last = let s = smallest-at tick n .1 in subst (SmallestFrom 0 (PermittedAt t order more n)) newest (record {
+        last : SmallestFrom 0 (PermittedAt w t order more n) (more (at n))
+        last = let s = smallest-at tick n .1 in subst (SmallestFrom 0 (PermittedAt w t order more n)) newest (record {
           not-before = s .not-before;
-          permitted = carry t order tick more n x earlier (s .permitted);
-          least = λ y a f. s .least y a (carry t order more tick n y (λ p l. sym (earlier p l)) f);
+          permitted = carry w t order tick more n x earlier (s .permitted);
+          least = λ y a f. s .least y a (carry w t order more tick n y (λ p l. sym (earlier p l)) f);
         })
 
-        cases : (q : ℕ) → q < suc n → Dec (q < n) → SmallestFrom 0 (PermittedAt t order more q) (more (at q))
+        cases : (q : ℕ) → q < suc n → Dec (q < n) → SmallestFrom 0 (PermittedAt w t order more q) (more (at q))
         cases q l (yes k) = smallest-same tick more q (λ p m. earlier p (omega arith)) (s q k)
-        cases q l (no k) = let e : n ≡ q = omega arith in subst (λ (z : ℕ). SmallestFrom 0 (PermittedAt t order more z) (more (at z))) e last
+        cases q l (no k) = let e : n ≡ q = omega arith in subst (λ (z : ℕ). SmallestFrom 0 (PermittedAt w t order more z) (more (at z))) e last
 
     ticks-up-to : (n : ℕ) → n ≤ length order → (tick : ℕ → ℕ) × TicksUpTo n tick
     ticks-up-to zero h = ((λ c. 0), λ q l. absurd (not-suc-le-zero l))
     ticks-up-to (suc n) h = let r = ticks-up-to n (omega arith) in next-place n h (r .0) (r .1)
 
-    pub ticks-exist : (tick : ℕ → ℕ) × StartTicks t order tick
+    pub ticks-exist : (tick : ℕ → ℕ) × StartTicks w t order tick
     ticks-exist = let r = ticks-up-to (length order) (le-refl (length order)) in (r .0, record { smallest = r .1 })
 
 -- ---- the plan of a job
@@ -142,7 +144,7 @@ module _ (j : Numbers) (listed : Listing j) (limit : j .network .nodes ≤ nodeL
     plan = record {
       true-distances = tables-exist .1;
       reached = λ i h. own-reached i (own t i) h (tables-exist .1 .start-goal i i h h);
-      ticks = ticks-exist t (j .order) (listed .once) .1;
+      ticks = ticks-exist (j .dwell) t (j .order) (listed .once) .1;
       cost-is = omega arith;
     };
   }
@@ -151,7 +153,7 @@ module _ (j : Numbers) (listed : Listing j) (limit : j .network .nodes ≤ nodeL
       t = tables-exist .0
 
       tick : ℕ → ℕ
-      tick = ticks-exist t (j .order) (listed .once) .0
+      tick = ticks-exist (j .dwell) t (j .order) (listed .once) .0
 
 -- of a job without faults
 pub plan-exists : (j : Numbers) → None (jobQuestion j) → Planned j

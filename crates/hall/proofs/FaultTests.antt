@@ -7,13 +7,13 @@ use mathlib.Core.List.{List, [], _∷_}
 use Prim.Native.Nat.{ℕ, _+_, _/_, _%_, _≤_, _<_}
 use native.Mathlib.Omega.{arith}
 use lib.ListN.{length, getD}
-use Rattle.hall.specs.Limits.{nodeLimit, laneLimit, carrierLimit}
+use Rattle.hall.specs.Limits.{nodeLimit, laneLimit, carrierLimit, dwellLimit}
 use Rattle.hall.specs.Floor.{laneCount, lower, higher}
 use Rattle.hall.specs.Job.{Numbers, carriers, moveCount, startIn, goalIn}
 use Rattle.hall.specs.Refusals.{Exceeds, by-lower, by-higher, LaneFault, no-node, not-below, not-rising}
 use Rattle.hall.specs.Refusals.{ClosedFault, no-such-node, not-higher}
 use Rattle.hall.specs.Refusals.{BadOrder-at, no-carrier, stands-earlier}
-use Rattle.hall.specs.Questions.{nodesCount, lanesCount, closedCount, carriersCount, orderCount}
+use Rattle.hall.specs.Questions.{nodesCount, lanesCount, closedCount, carriersCount, orderCount, dwellCount}
 use Rattle.hall.specs.Questions.{laneChecks, eachLane, closedChecks, eachClosed}
 use Rattle.hall.specs.Questions.{moveChecks, eachMove, orderChecks, eachOrderPlace, eachWalk}
 use Rattle.hall.specs.Questions.{checksQuestion, jobQuestion}
@@ -120,6 +120,9 @@ carriers-count? count = once? (lt? carrierLimit count)
 abbrev pub order-count? : (order count : ℕ) → Tested (orderCount order count)
 order-count? order count = once? (not? (eq? order count))
 
+abbrev pub dwell-count? : (dwell : ℕ) → Tested (dwellCount dwell)
+dwell-count? dwell = once? (lt? dwellLimit dwell)
+
 abbrev pub each-lane? : (nodes : ℕ) (lanes : List ℕ) → Tested (eachLane nodes lanes)
 each-lane? nodes lanes = each? (laneCount lanes) (laneChecks nodes lanes) (λ k. (lane-fault? nodes lanes k, tt))
 
@@ -154,12 +157,15 @@ checks? j = (
         (
           order-count? (length (j .order)) (carriers j),
           (
-            each-lane? (j .network .nodes) (j .network .lanes),
+            dwell-count? (j .dwell),
             (
-              each-closed? (j .network .nodes) (j .network .closed),
+              each-lane? (j .network .nodes) (j .network .lanes),
               (
-                each-move? (j .network .nodes) (j .network .closed) (j .moves),
-                (each-order-place? (carriers j) (j .order), tt),
+                each-closed? (j .network .nodes) (j .network .closed),
+                (
+                  each-move? (j .network .nodes) (j .network .closed) (j .moves),
+                  (each-order-place? (carriers j) (j .order), tt),
+                ),
               ),
             ),
           ),

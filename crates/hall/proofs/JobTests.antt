@@ -102,7 +102,7 @@ module _ (j : Numbers) where
       ByGuess =
           None (jobQuestion j)
           × ((length (s .ticks) ≡ carriers j)
-          × (StartTicks guessed (j .order) tick × (s .cost ≡ costOf guessed tick (carriers j))))
+          × (StartTicks (j .dwell) guessed (j .order) tick × (s .cost ≡ costOf guessed tick (carriers j))))
 
       pub by-guess-accepted : ByGuess → Accepted j s
       by-guess-accepted h = record {
@@ -124,7 +124,7 @@ module _ (j : Numbers) where
         (
           a .one-each,
           (
-            ticks-same (j .order) (entry-below j (checks-of-none j (a .no-fault))) tick same (a .plan .ticks),
+            ticks-same (j .dwell) (j .order) (entry-below j (checks-of-none j (a .no-fault))) tick same (a .plan .ticks),
             a .plan .cost-is
                 ∙ total-same (carriers j) (goalTick (a .tables) tick) (goalTick guessed tick)
                 (λ i h. ap (λ n. tick i + n) (same .sg i i h h)),
@@ -140,7 +140,7 @@ module _ (j : Numbers) where
           map? by-guess-accepted accepted-by-guess
           (none? (jobQuestion j) tested
           and? eq? (length (s .ticks)) (carriers j)
-          and? start-ticks? guessed (j .order) tick
+          and? start-ticks? (j .dwell) guessed (j .order) tick
           and? eq? (s .cost) (costOf guessed tick (carriers j)))
 
     abbrev pub gives? : (o : Outcome) → Test (Gives j o)

@@ -2,10 +2,10 @@
 -- and what they cite) use of a job that its order lists each carrier once, and nothing of its moves.
 --     numbers       Ints, Left, Answers, Lowest, Test
 --     the floor     Walks, Lists, LaneList, Paths, Pigeon, Labels, FloorTests, Decide, House
---     the rule      Rules, Ranges, Safe, Ticks, TickTests
+--     the rule      Rules, Ranges, Safe, Ticks, NoDwell, TickTests
 --     refusals      Numbers, Stages, Moves, Compose, Places, Crowded, StageTests, FaultTests, Complete,
 --                   Sound, WellFormed, Writing
---     plans         Demand, Shared, PlanLaws, Exist, Summit
+--     plans         Demand, Shared, PlanLaws, DwellLimits, Exist, Summit
 --     P1 to P11     JobTests, Cases, CaseRemarks, Outcomes
 pub mod Ints
 pub mod Walks
@@ -28,8 +28,10 @@ pub mod Crowded
 pub mod Left
 pub mod Sound
 pub mod Demand
+pub mod NoDwell
 pub mod Shared
 pub mod PlanLaws
+pub mod DwellLimits
 pub mod Lowest
 pub mod TickTests
 pub mod StageTests

@@ -9,9 +9,11 @@
 use mathlib.Core.Path.{_≡_, sym, _∙_, subst}
 use mathlib.Core.List.{List}
 use Prim.Native.Nat.{ℕ, _≤_, _<_}
+use native.Mathlib.Nat.{mul-le-mul-right}
 use native.Mathlib.Omega.{arith}
 use lib.ListN.{length, getD}
 use lib.IntN.{pos, _-ℤ_}
+use Rattle.hall.specs.Limits.{distanceLimit, startLimit, goalLimit}
 use Rattle.hall.specs.Floor.{Floor}
 use Rattle.hall.specs.Job.{Numbers, carriers, at-place}
 use Rattle.hall.specs.Stages.{None}
@@ -56,13 +58,13 @@ pair-same same i j hi hj = λ z. record {
   ji = same .sg j i hj hi z;
 }
 
-module _ {k : ℕ} (order : List ℕ) (in-range : (q : ℕ) → q < length order → getD order q 0 < k) (tick : ℕ → ℕ) where
-  permitted-same : {t u : Tables} → SameTables k t u → (q x : ℕ) → q < length order → PermittedAt t order tick q x → PermittedAt u order tick q x
+module _ (w : ℕ) {k : ℕ} (order : List ℕ) (in-range : (q : ℕ) → q < length order → getD order q 0 < k) (tick : ℕ → ℕ) where
+  permitted-same : {t u : Tables} → SameTables k t u → (q x : ℕ) → q < length order → PermittedAt w t order tick q x → PermittedAt w u order tick q x
   unfolding PermittedBy
   permitted-same same q x l f p h =
-      subst (λ (z : Pair). Permitted z (pos x -ℤ pos (tick (getD order p 0)))) (pair-same same (getD order p 0) (getD order q 0) (in-range p (omega arith)) (in-range q l)) (f p h)
+      subst (λ (z : Pair). Permitted w z (pos x -ℤ pos (tick (getD order p 0)))) (pair-same same (getD order p 0) (getD order q 0) (in-range p (omega arith)) (in-range q l)) (f p h)
 
-  pub ticks-same : {t u : Tables} → SameTables k t u → StartTicks t order tick → StartTicks u order tick
+  pub ticks-same : {t u : Tables} → SameTables k t u → StartTicks w t order tick → StartTicks w u order tick
   ticks-same same s = record {
     smallest = λ q l. record {
       not-before = s .smallest q l .not-before;
@@ -86,27 +88,37 @@ module _ (j : Numbers) (listed : Listing j) where
 
       ticks : (i : ℕ) → i < carriers j → tick i ≡ tick′ i
       ticks i h =
-          ticks-unique-all u (j .order) tick tick′ (ticks-same (j .order) (listed .below) tick same (a .ticks)) (b .ticks)
+          ticks-unique-all (j .dwell) u (j .order) tick tick′ (ticks-same (j .dwell) (j .order) (listed .below) tick same (a .ticks)) (b .ticks)
           (λ p l. rw (listed .size) (listed .below p l)) (listed .once) i (rw (listed .size) h)
 
       goals : (i : ℕ) → i < carriers j → goalTick t tick i ≡ goalTick u tick′ i
       goals i h = omega (arith, ticks i h, same .sg i i h h)
 
-  pub plan-within-listed : (t : Tables) (tick : ℕ → ℕ) (cost : ℕ) → Plan j t tick cost → Within (carriers j) t tick cost
+  pub plan-within-listed : (t : Tables) (tick : ℕ → ℕ) (cost : ℕ) → Plan j t tick cost → Within (j .dwell) (carriers j) t tick cost
   plan-within-listed t tick cost plan = record {
     start-ticks = λ i h. limits i h .0;
     goal-ticks = λ i h. limits i h .1;
-    cost-limit = omega (arith, plan .cost-is, total-limit (carriers j) (goalTick t tick) 65535 (λ i h. limits i h .1), listed .few);
+    last-ticks = λ i h. omega (arith, limits i h .1);
+    cost-limit =
+        omega (
+          arith,
+          plan .cost-is,
+          total-limit (carriers j) (goalTick t tick) (goalLimit w) (λ i h. limits i h .1),
+          mul-le-mul-right (goalLimit w) (listed .few),
+        );
   }
     where
-      small : (q : ℕ) → q < length (j .order) → own t (at-place j q) ≤ 1023
+      w : ℕ
+      w = j .dwell
+
+      small : (q : ℕ) → q < length (j .order) → own t (at-place j q) ≤ distanceLimit
       small q l = let h = listed .below q l in distance-small (plan .true-distances .start-goal (at-place j q) (at-place j q) h h) (plan .reached (at-place j q) h)
 
-      limits : (i : ℕ) → i < carriers j → (tick i ≤ 64512) × (goalTick t tick i ≤ 65535)
+      limits : (i : ℕ) → i < carriers j → (tick i ≤ startLimit w) × (goalTick t tick i ≤ goalLimit w)
       limits i h =
           let f = place-listed j listed i h in
-          subst (λ (x : ℕ). (tick x ≤ 64512) × (goalTick t tick x ≤ 65535)) (f .is)
-          (tick-limit t (j .order) tick (plan .ticks) small (omega (arith, listed .size, listed .few)) (f .place) (f .inside))
+          subst (λ (x : ℕ). (tick x ≤ startLimit w) × (goalTick t tick x ≤ goalLimit w)) (f .is)
+          (tick-limit w t (j .order) tick (plan .ticks) small (omega (arith, listed .size, listed .few)) (f .place) (f .inside))
 
 -- ---- of a job without faults of the listed checks
 
@@ -114,5 +126,5 @@ pub plan-unique : (j : Numbers) (sound : None (checksQuestion j)) (t u : Tables)
     → SamePlan (carriers j) t tick cost u tick′ cost′
 plan-unique j sound = plan-unique-listed j (listing j sound)
 
-pub plan-within : (j : Numbers) (sound : None (checksQuestion j)) (t : Tables) (tick : ℕ → ℕ) (cost : ℕ) → Plan j t tick cost → Within (carriers j) t tick cost
+pub plan-within : (j : Numbers) (sound : None (checksQuestion j)) (t : Tables) (tick : ℕ → ℕ) (cost : ℕ) → Plan j t tick cost → Within (j .dwell) (carriers j) t tick cost
 plan-within j sound = plan-within-listed j (listing j sound)

@@ -12,7 +12,7 @@ use lib.IntN.{ℤ, pos, negℤ}
 use lib.Signed.{_≤ℤ_}
 use Rattle.hall.specs.Limits.{nodeLimit, noWalkMark}
 use Rattle.hall.specs.Floor.{Floor, Symmetric, Walk, Network, floor}
-use Rattle.hall.specs.Rule.{Pair, lead-i, lead-j, gap, Permitted}
+use Rattle.hall.specs.Rule.{Pair, lead-i, lead-j, gap, lowEnd, highEnd, Permitted}
 use Rattle.hall.specs.Plan.{DistancesOf}
 use Rattle.hall.proofs.Ints.{up, down, up-pos, down-pos, up-neg, down-neg, le-law}
 use Rattle.hall.proofs.Walks.{join, reverse, true-distance, distance-small, lanes-symmetric}
@@ -76,15 +76,17 @@ module _ (p : Pair) (small : Joined6 p) where
 
 -- ---- sentences of the rule
 
-module _ (p : Pair) (D : ℤ) where
+module _ (w : ℕ) (p : Pair) (D : ℤ) where
   -- rule 4.5
-  pub unjoined-permitted : p .ss ≡ 65535 → Permitted p D
+  pub unjoined-permitted : p .ss ≡ 65535 → Permitted w p D
   unjoined-permitted e f = f .joined e
 
   -- rule 4.6
-  pub gap-permitted : ¬ (gap p ≤ℤ pos 0) → Permitted p D
+  pub gap-permitted : ¬ (gap p ≤ℤ pos 0) → Permitted w p D
   gap-permitted h f = h (f .gap-not-above)
 
   -- rule 4.9
-  pub empty-stretch-permitted : ¬ (negℤ (lead-j p) ≤ℤ lead-i p) → Permitted p D
-  empty-stretch-permitted h f = h (le-law (negℤ (lead-j p)) (lead-i p) .1 (omega (arith, le-law (negℤ (lead-j p)) D .0 (f .low), le-law D (lead-i p) .0 (f .high))))
+  pub empty-stretch-permitted : ¬ (lowEnd w p ≤ℤ highEnd w p) → Permitted w p D
+  empty-stretch-permitted h f =
+      h (le-law (lowEnd w p) (highEnd w p) .1
+      (omega (arith, le-law (lowEnd w p) D .0 (f .low), le-law D (highEnd w p) .0 (f .high))))

@@ -12,7 +12,7 @@ use Prim.Native.Nat.{ℕ, suc, _/_, _%_, _≤_, _<_}
 use native.Mathlib.Decide.{ℕ-discrete, decLt}
 use native.Mathlib.Omega.{arith}
 use lib.ListN.{length}
-use Rattle.hall.specs.Limits.{nodeLimit, laneLimit, carrierLimit}
+use Rattle.hall.specs.Limits.{nodeLimit, laneLimit, carrierLimit, dwellLimit}
 use Rattle.hall.specs.Floor.{NoWalk, Network, laneCount, floor}
 use Rattle.hall.specs.Job.{Numbers, carriers, start, goal, at-place, EndsOn}
 use Rattle.hall.specs.Stages.{FirstOf, here, later, FirstAt, FirstStage, First, None}
@@ -59,6 +59,7 @@ pub record Denied (j : Numbers) : Type 0 where
   pub network : DeniedNetwork (j .network)
   pub carriers-count : ¬ (carrierLimit < carriers j)
   pub order-count : ¬ (length (j .order) ≢ carriers j)
+  pub dwell-count : ¬ (dwellLimit < j .dwell)
   pub off-floor : (i : ℕ) → i < carriers j → ¬ OffFloor-at (j .network .nodes) (start j i) (goal j i)
   pub same-ends : (i : ℕ) → i < carriers j → ¬ (start j i ≡ goal j i)
   pub closed-end : (i : ℕ) → i < carriers j → ¬ ClosedEnd-at (j .network .closed) (start j i) (goal j i)
@@ -71,7 +72,8 @@ denied-checks j none =
     let closed = none-asked (lanes .1) in
     let few = none-asked (closed .1) in
     let order = none-asked (few .1) in
-    let lane = none-each (laneChecks (j .network .nodes) (j .network .lanes)) (order .1) in
+    let dwell = none-asked (order .1) in
+    let lane = none-each (laneChecks (j .network .nodes) (j .network .lanes)) (dwell .1) in
     let shut = none-each (closedChecks (j .network .nodes) (j .network .closed)) (lane .1) in
     let move = none-each (moveChecks (j .network .nodes) (j .network .closed) (j .moves)) (shut .1) in
     let entry = none-each (orderChecks (carriers j) (j .order)) (move .1) in
@@ -85,6 +87,7 @@ denied-checks j none =
       };
       carriers-count = few .0;
       order-count = order .0;
+      dwell-count = dwell .0;
       off-floor = λ i l. move .0 .clear i l .0;
       same-ends = λ i l. move .0 .clear i l .1 .0;
       closed-end = λ i l. move .0 .clear i l .1 .1 .0;
@@ -146,6 +149,9 @@ module _ (j : Numbers) (sound : None (checksQuestion j)) where
 
   pub carriers-limit : carriers j ≤ carrierLimit
   carriers-limit = not-above carrierLimit (carriers j) (facts .carriers-count)
+
+  pub dwell-within : j .dwell ≤ dwellLimit
+  dwell-within = not-above dwellLimit (j .dwell) (facts .dwell-count)
 
   pub order-length : length (j .order) ≡ carriers j
   order-length = cases (ℕ-discrete (length (j .order)) (carriers j))

@@ -39,10 +39,10 @@ pub record PlannedOnce (j : Numbers) : Type 0 where
   pub no-fault : None (jobQuestion j)
   pub planned : Planned j
   pub only : (u : Tables) (tick : ℕ → ℕ) (cost : ℕ) → Plan j u tick cost → SamePlan (carriers j) (planned .tables) (planned .tick) (planned .cost) u tick cost
-  pub within : Within (carriers j) (planned .tables) (planned .tick) (planned .cost)
+  pub within : Within (j .dwell) (carriers j) (planned .tables) (planned .tick) (planned .cost)
   pub paths : (i : ℕ) → i < carriers j → (l : List ℕ) × ShortestPath (floor (j .network)) (start j i) (goal j i) l
   pub safe : (path : ℕ → List ℕ) → ((i : ℕ) → i < carriers j → ShortestPath (floor (j .network)) (start j i) (goal j i) (path i))
-      → Demand3 (floor (j .network)) (carriers j) (start j) (goal j) (planned .tables) (j .order) (planned .tick) path
+      → Demand3 (floor (j .network)) (j .dwell) (carriers j) (start j) (goal j) (planned .tables) (j .order) (planned .tick) path
 
 pub refused-once : (j : Numbers) {n p : ℕ} → First (jobQuestion j) n p → RefusedOnce j
 refused-once j {n} {p} h = record { number = n; place = p; first = h; only = λ m q k. first-unique h k }

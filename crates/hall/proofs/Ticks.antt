@@ -1,72 +1,90 @@
--- What follows of start ticks by an order, whatever the tables: the first starts at 0, the bound, the limits
--- 64,512 and 65,535, and uniqueness. The bound: one tick after the latest goal tick so far is past every
--- stretch, so the smallest permitted tick is not later. Uniqueness: by induction over the places, since the
--- ticks before a place decide which ticks are permitted at it. Assumes nothing.
+-- What follows of start ticks by an order, whatever the tables and the dwell: the first starts at 0, the
+-- bound, the limits, and uniqueness. The bound: one tick after the latest last tick so far is past every
+-- stretch, so the smallest permitted tick is not later. The limits: so each carrier starts at most 1,024 + w
+-- ticks later than the latest before it. Uniqueness: by induction over the places, since the ticks before a
+-- place decide which ticks are permitted at it. Assumes nothing.
 use mathlib.Core.Path.{_≡_, sym, subst}
 use mathlib.Core.List.{List}
 use Prim.Native.Nat.{ℕ, zero, suc, _+_, _*_, _≤_, _<_, max, zero-le}
-use native.Mathlib.Nat.{le-antisymm, not-suc-le-zero, le-refl}
+use native.Mathlib.Nat.{le-antisymm, not-suc-le-zero, le-refl, mul-suc, mul-le-mul-left}
 use native.Mathlib.Decide.{decLt}
 use native.Mathlib.Omega.{arith}
 use lib.ListN.{length, getD}
 use lib.IntN.{pos, _-ℤ_}
+use Rattle.hall.specs.Limits.{distanceLimit, nodeLimit, carrierLimit, startLimit, goalLimit}
 use Rattle.hall.specs.Rule.{Pair, Permitted, Forbidden⁺}
-use Rattle.hall.specs.Ticks.{SmallestFrom, PermittedBy, Tables, own, pairOf, PermittedAt, StartTicks, goalTick, latest, total}
+use Rattle.hall.specs.Ticks.{SmallestFrom, PermittedBy, Tables, own, pairOf, PermittedAt, StartTicks}
+use Rattle.hall.specs.Ticks.{goalTick, lastTick, latest, total}
 use Rattle.hall.proofs.Rules.{forbidden-iff}
 use Rattle.hall.proofs.Pigeon.{all-listed}
 
--- a tick past i's goal tick is permitted
-pub past-goal : (p : Pair) (ti tj : ℕ) → ti + p .ii < tj → Permitted p (pos tj -ℤ pos ti)
-past-goal p ti tj h f = let g : Forbidden⁺ p ti tj = forbidden-iff p ti tj .0 f in omega arith
+-- a tick past i's last tick is permitted
+pub past-last : (w : ℕ) (p : Pair) (ti tj : ℕ) → ti + p .ii + w < tj → Permitted w p (pos tj -ℤ pos ti)
+past-last w p ti tj h f = let g : Forbidden⁺ w p ti tj = forbidden-iff w p ti tj .0 f in omega arith
 
 pub smallest-unique : {from x y : ℕ} {Permits : ℕ → Type 0} → SmallestFrom from Permits x → SmallestFrom from Permits y → x ≡ y
 smallest-unique {x = x} {y = y} s u = le-antisymm (s .least y (u .not-before) (u .permitted)) (u .least x (s .not-before) (s .permitted))
 
-module _ (t : Tables) (order : List ℕ) where
+-- ---- the latest tick of the carriers before a place
+
+module _ (order : List ℕ) (tick : ℕ → ℕ) where
+  more : (q p : ℕ) → (p < q → tick (getD order p 0) ≤ latest order tick q) → p < suc q → Dec (p < q)
+      → tick (getD order p 0) ≤ max (latest order tick q) (tick (getD order q 0))
+  more q p before h (yes l) = let k = before l in omega arith
+  more q p before h (no l) = let e : p ≡ q = omega arith in rw e (omega arith)
+
+  pub latest-bounds : (q p : ℕ) → p < q → tick (getD order p 0) ≤ latest order tick q
+  unfolding latest
+  latest-bounds zero p h = absurd (not-suc-le-zero h)
+  latest-bounds (suc q) p h = more q p (latest-bounds q p) h (decLt p q)
+
+-- ---- the bound and the limits
+
+-- so many steps to an earlier place, and one more, are no more than to a later one
+pub earlier-steps : (s p q : ℕ) → p < q → s * p + s ≤ s * q
+earlier-steps s p q l = rw mul-suc at (mul-le-mul-left s l)
+
+module _ (w : ℕ) (t : Tables) (order : List ℕ) where
   abbrev at : ℕ → ℕ
   at q = getD order q 0
 
-  module _ (tick : ℕ → ℕ) where
-    more : (q p : ℕ) → (p < q → goalTick t tick (at p) ≤ latest order (goalTick t tick) q) → p < suc q → Dec (p < q)
-        → goalTick t tick (at p) ≤ max (latest order (goalTick t tick) q) (goalTick t tick (at q))
-    more q p before h (yes l) = let k = before l in omega arith
-    more q p before h (no l) = let e : p ≡ q = omega arith in rw e (omega arith)
+  module _ (tick : ℕ → ℕ) (s : StartTicks w t order tick) where
+    -- rule 5.1
+    pub first-at-zero : 0 < length order → tick (at 0) ≡ 0
+    unfolding PermittedBy
+    first-at-zero h = le-antisymm (s .smallest 0 h .least 0 zero-le (λ p l. absurd (not-suc-le-zero l))) zero-le
 
-    pub latest-bounds : (q p : ℕ) → p < q → goalTick t tick (at p) ≤ latest order (goalTick t tick) q
-    unfolding latest
-    latest-bounds zero p h = absurd (not-suc-le-zero h)
-    latest-bounds (suc q) p h = more q p (latest-bounds q p) h (decLt p q)
+    -- no carrier starts later than one tick after the latest last tick among those before it
+    pub tick-bound : (q : ℕ) → q < length order → tick (at q) ≤ latest order (lastTick w t tick) q + 1
+    unfolding PermittedBy
+    tick-bound q h = s .smallest q h .least (latest order (lastTick w t tick) q + 1) zero-le (λ p l.
+        past-last w (pairOf t (at p) (at q)) (tick (at p)) (latest order (lastTick w t tick) q + 1)
+        (omega (arith, latest-bounds order (lastTick w t tick) q p l)))
 
-    module _ (s : StartTicks t order tick) where
-      -- rule 5.1
-      pub first-at-zero : 0 < length order → tick (at 0) ≡ 0
+    module _ (small : (q : ℕ) → q < length order → own t (at q) ≤ distanceLimit) where
+      -- the carrier at place q starts at tick (1,024 + w) q at the latest; n bounds the place
+      small-before : (n q : ℕ) → q < n → q < length order → tick (at q) ≤ (nodeLimit + w) * q
       unfolding PermittedBy
-      first-at-zero h = le-antisymm (s .smallest 0 h .least 0 zero-le (λ p l. absurd (not-suc-le-zero l))) zero-le
+      small-before zero q h l = absurd (not-suc-le-zero h)
+      small-before (suc n) q h l = s .smallest q l .least ((nodeLimit + w) * q) zero-le (λ p k.
+          past-last w (pairOf t (at p) (at q)) (tick (at p)) ((nodeLimit + w) * q)
+          (omega (arith, small p (omega arith), small-before n p (omega arith) (omega arith), earlier-steps (nodeLimit + w) p q k)))
 
-      -- no carrier starts later than one tick after the latest goal tick among those before it
-      pub tick-bound : (q : ℕ) → q < length order → tick (at q) ≤ latest order (goalTick t tick) q + 1
-      unfolding PermittedBy
-      tick-bound q h = s .smallest q h .least (latest order (goalTick t tick) q + 1) zero-le (λ p l.
-          past-goal (pairOf t (at p) (at q)) (tick (at p)) (latest order (goalTick t tick) q + 1) (omega (arith, latest-bounds q p l)))
-
-      module _ (small : (q : ℕ) → q < length order → own t (at q) ≤ 1023) where
-        -- the carrier at place q starts at tick 1,024 q at the latest; n bounds the place
-        small-before : (n q : ℕ) → q < n → q < length order → tick (at q) ≤ 1024 * q
-        unfolding PermittedBy
-        small-before zero q h l = absurd (not-suc-le-zero h)
-        small-before (suc n) q h l = s .smallest q l .least (1024 * q) zero-le (λ p k.
-            past-goal (pairOf t (at p) (at q)) (tick (at p)) (1024 * q) (omega (arith, small p (omega arith), small-before n p (omega arith) (omega arith))))
-
-        pub tick-limit : length order ≤ 64 → (q : ℕ) → q < length order → (tick (at q) ≤ 64512) × (goalTick t tick (at q) ≤ 65535)
-        tick-limit k q l = let b = small-before (suc q) q (le-refl (suc q)) l in let o = small q l in omega arith
+      pub tick-limit : length order ≤ carrierLimit → (q : ℕ) → q < length order
+          → (tick (at q) ≤ startLimit w) × (goalTick t tick (at q) ≤ goalLimit w)
+      tick-limit k q l =
+          let b = small-before (suc q) q (le-refl (suc q)) l in
+          let o = small q l in
+          let m : (nodeLimit + w) * q ≤ startLimit w = mul-le-mul-left (nodeLimit + w) (omega arith) in
+          (omega arith, omega arith)
 
   -- ---- uniqueness
 
-  pub carry : (u v : ℕ → ℕ) (q x : ℕ) → ((p : ℕ) → p < q → u (at p) ≡ v (at p)) → PermittedAt t order u q x → PermittedAt t order v q x
+  pub carry : (u v : ℕ → ℕ) (q x : ℕ) → ((p : ℕ) → p < q → u (at p) ≡ v (at p)) → PermittedAt w t order u q x → PermittedAt w t order v q x
   unfolding PermittedBy
   carry u v q x e f p l = rw (e p l) at (f p l)
 
-  module _ (tick tick′ : ℕ → ℕ) (s : StartTicks t order tick) (s′ : StartTicks t order tick′) where
+  module _ (tick tick′ : ℕ → ℕ) (s : StartTicks w t order tick) (s′ : StartTicks w t order tick′) where
     -- n bounds the place
     same-before : (n q : ℕ) → q < n → q < length order → tick (at q) ≡ tick′ (at q)
     same-before zero q h l = absurd (not-suc-le-zero h)

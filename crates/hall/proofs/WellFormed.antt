@@ -24,7 +24,7 @@ use Rattle.hall.proofs.Test.{dec}
 use Rattle.hall.proofs.FaultTests.{exceeds?}
 use Rattle.hall.proofs.Compose.{none-more, none-at-all}
 use Rattle.hall.proofs.Places.{asked-clear, Passed, each-none}
-use Rattle.hall.proofs.Sound.{not-above, DeniedNetwork, Denied, denied-checks, carriers-limit, order-length}
+use Rattle.hall.proofs.Sound.{not-above, DeniedNetwork, Denied, denied-checks, carriers-limit, dwell-within, order-length}
 use Rattle.hall.proofs.Sound.{ends-on, entry-below, entry-once, place-of}
 
 -- ---- the rising order
@@ -99,6 +99,7 @@ module _ (j : Numbers) (sound : None (checksQuestion j)) where
   pub well-formed : WellFormed j
   well-formed = record {
     network-is = well-formed-network (j .network) (facts .network);
+    dwell-few = dwell-within j sound;
     carrier-count = carriers-limit j sound;
     ends-on = ends-on j sound;
     ends-differ = facts .same-ends;
@@ -155,11 +156,12 @@ module _ (j : Numbers) (w : WellFormed j) where
       (asked-clear (λ l. omega (arith, w .network-is .closed-count))
       (asked-clear (λ l. omega (arith, w .carrier-count))
       (asked-clear (λ d. d (w .order-count))
+      (asked-clear (λ l. omega (arith, w .dwell-few))
       (none-more (each-none (laneChecks (j .network .nodes) (j .network .lanes)) (each-lane-passed (j .network) (w .network-is)))
       (none-more (each-none (closedChecks (j .network .nodes) (j .network .closed)) (each-closed-passed (j .network) (w .network-is)))
       (none-more (each-none (moveChecks (j .network .nodes) (j .network .closed) (j .moves)) moves-passed)
       (none-more (each-none (orderChecks (carriers j) (j .order)) order-passed)
-      none-at-all))))))))
+      none-at-all)))))))))
     where
       moves-passed : Passed (moveChecks (j .network .nodes) (j .network .closed) (j .moves)) (carriers j)
       moves-passed = record { clear = λ i l. (no-off-floor i l, (w .ends-differ i l, (no-closed-end i l, tt))) }

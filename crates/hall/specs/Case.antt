@@ -1,6 +1,7 @@
--- The cases P1 to P11 (rules 11.1 to 11.11) as one table, those of carriers that share an end (rule 11.14)
--- as another, and the first seven of halls with closed nodes (rule 11.15) as a third. A line is the whole outcome of
--- its job: `outcome-unique` (proofs/Outcomes.antt) says that a job has no second one.
+-- The cases P1 to P11 (rules 11.1 to 11.11) as one table, those of carriers that share an end (rule 11.14) as
+-- another, the first seven of halls with closed nodes (rule 11.15) as a third, and the first twelve of
+-- carriers that wait (rule 11.16) as a fourth. A line is the whole outcome of its job: `outcome-unique`
+-- (proofs/Outcomes.antt) says that a job has no second one.
 --     Schedule    start ticks by carrier number, and the cost
 --     Outcome     what is said of a job: a schedule, or a refusal with its number and place
 --     planned     a schedule as an outcome
@@ -12,13 +13,17 @@
 --     line2, ..   the lanes of a line of so many nodes; six-lanes four nodes with all six lanes between them
 --     two-rows    six nodes in two rows of three: 0 1 2 above 3 4 5
 --     crossing    seven nodes: 1 is joined to 0, 2, 4 and 5, 3 to 0 and 2, and 6 to 4 and 5
---     case-closed a case from its numbers: nodes, lanes, closed nodes, moves, order, outcome
---     case        the same without closed nodes
+--     square      four nodes in two rows of two: 0 1 above 2 3
+--     case-of     a case from its numbers: nodes, lanes, closed nodes, moves, order, dwell, outcome
+--     case-closed the same without dwell
+--     case-dwell  the same without closed nodes
+--     case        the same without either
 --     cases       P1 to P11, line by line. Where the rules name no network (no carriers) it is line 5; where
 --                 they name no cost it is the sum of the goal ticks
 --     shared-cases    carriers from one lift, into one chute, or both
 --     closed-cases    a floor plate is taken up: the way round it, no way, and a plate that is in no one's
 --                     way
+--     dwell-cases     carriers that wait over the chute
 use mathlib.Core.Path.{_≡_}
 use mathlib.Core.List.{List, [], _∷_}
 use Prim.Native.Nat.{ℕ}
@@ -73,12 +78,21 @@ six-lanes = 0 ∷ 1 ∷ 0 ∷ 2 ∷ 0 ∷ 3 ∷ 1 ∷ 2 ∷ 1 ∷ 3 ∷ 2 ∷ 3 
 abbrev pub two-rows : List ℕ
 two-rows = 0 ∷ 1 ∷ 0 ∷ 3 ∷ 1 ∷ 2 ∷ 1 ∷ 4 ∷ 2 ∷ 5 ∷ 3 ∷ 4 ∷ 4 ∷ 5 ∷ []
 
+abbrev pub square : List ℕ
+square = 0 ∷ 1 ∷ 0 ∷ 2 ∷ 1 ∷ 3 ∷ 2 ∷ 3 ∷ []
+
 abbrev pub crossing : List ℕ
 crossing = 0 ∷ 1 ∷ 0 ∷ 3 ∷ 1 ∷ 2 ∷ 1 ∷ 4 ∷ 1 ∷ 5 ∷ 2 ∷ 3 ∷ 4 ∷ 6 ∷ 5 ∷ 6 ∷ []
 
+abbrev pub case-of : ℕ → (lanes closed moves order : List ℕ) → (dwell : ℕ) → Outcome → Case
+case-of n lanes closed moves order dwell o =
+    record { job = jobOf (networkOf n lanes closed) moves order dwell; outcome = o }
+
 abbrev pub case-closed : ℕ → (lanes closed moves order : List ℕ) → Outcome → Case
-case-closed n lanes closed moves order o =
-    record { job = jobOf (networkOf n lanes closed) moves order; outcome = o }
+case-closed n lanes closed moves order = case-of n lanes closed moves order 0
+
+abbrev pub case-dwell : ℕ → (lanes moves order : List ℕ) → (dwell : ℕ) → Outcome → Case
+case-dwell n lanes = case-of n lanes []
 
 abbrev pub case : ℕ → (lanes moves order : List ℕ) → Outcome → Case
 case n lanes = case-closed n lanes []
@@ -138,4 +152,25 @@ closed-cases =
     ∷ case-closed 7 crossing (1 ∷ []) (0 ∷ 2 ∷ 4 ∷ 5 ∷ []) (0 ∷ 1 ∷ []) (planned (0 ∷ 0 ∷ []) 4)
     -- every node closed, and no carrier
     ∷ case-closed 2 line2 (0 ∷ 1 ∷ []) [] [] (planned [] 0)
+    ∷ []
+
+unfoldable pub dwell-cases : List Case
+dwell-cases =
+    -- P8 with dwell 2, and the same without
+    case-dwell 5 line5 (0 ∷ 4 ∷ 4 ∷ 0 ∷ 2 ∷ 1 ∷ []) (0 ∷ 1 ∷ 2 ∷ []) 2 (planned (0 ∷ 7 ∷ 5 ∷ []) 21)
+    ∷ case-dwell 5 line5 (0 ∷ 4 ∷ 4 ∷ 0 ∷ 2 ∷ 1 ∷ []) (0 ∷ 1 ∷ 2 ∷ []) 0 (planned (0 ∷ 5 ∷ 3 ∷ []) 17)
+    -- P7 with dwell: no exception
+    ∷ case-dwell 4 six-lanes (0 ∷ 1 ∷ 2 ∷ 3 ∷ []) (0 ∷ 1 ∷ []) 1 (planned (0 ∷ 2 ∷ []) 4)
+    ∷ case-dwell 4 six-lanes (0 ∷ 1 ∷ 2 ∷ 3 ∷ []) (0 ∷ 1 ∷ []) 2 (planned (0 ∷ 3 ∷ []) 5)
+    -- side by side: a stretch that is empty until it is widened
+    ∷ case-dwell 4 square (0 ∷ 1 ∷ 2 ∷ 3 ∷ []) (0 ∷ 1 ∷ []) 0 (planned (0 ∷ 0 ∷ []) 2)
+    ∷ case-dwell 4 square (0 ∷ 1 ∷ 2 ∷ 3 ∷ []) (0 ∷ 1 ∷ []) 1 (planned (0 ∷ 1 ∷ []) 3)
+    ∷ case-dwell 4 square (0 ∷ 1 ∷ 2 ∷ 3 ∷ []) (0 ∷ 1 ∷ []) 2 (planned (0 ∷ 2 ∷ []) 4)
+    -- one chute behind two starts, and a train
+    ∷ case-dwell 4 line4 (0 ∷ 3 ∷ 2 ∷ 3 ∷ []) (0 ∷ 1 ∷ []) 2 (planned (0 ∷ 5 ∷ []) 9)
+    ∷ case-dwell 4 line4 (0 ∷ 3 ∷ 0 ∷ 3 ∷ 0 ∷ 3 ∷ []) (0 ∷ 1 ∷ 2 ∷ []) 1 (planned (0 ∷ 2 ∷ 4 ∷ []) 15)
+    -- P6, P10 and P3 with the greatest dwell
+    ∷ case-dwell 5 line5 (0 ∷ 1 ∷ 3 ∷ 4 ∷ []) (0 ∷ 1 ∷ []) 255 (planned (0 ∷ 0 ∷ []) 2)
+    ∷ case-dwell 4 (0 ∷ 1 ∷ 2 ∷ 3 ∷ []) (0 ∷ 1 ∷ 2 ∷ 3 ∷ []) (0 ∷ 1 ∷ []) 255 (planned (0 ∷ 0 ∷ []) 2)
+    ∷ case-dwell 2 line2 (0 ∷ 1 ∷ 1 ∷ 0 ∷ []) (0 ∷ 1 ∷ []) 255 (planned (0 ∷ 257 ∷ []) 259)
     ∷ []

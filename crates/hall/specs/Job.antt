@@ -1,8 +1,9 @@
--- A job from numbers (rules 1.1, 1.5 to 1.7, 3.1, 3.7 to 3.9 and 8.22).
+-- A job from numbers (rules 1.1, 1.5 to 1.7, 1.9, 3.1, 3.7 to 3.9 and 8.22).
 --     moveCount        how many moves a list of starts and goals by turns has; an odd last number is no move
 --     startIn, goalIn  the start and the goal of the carrier with a number, in such a list
 --     Numbers          the numbers of a job: its network; its moves, by carrier number; its order, which
---                      lists carrier numbers by place
+--                      lists carrier numbers by place; its dwell, the number of ticks that each carrier
+--                      stands on its goal after its goal tick (rule 1.9)
 --     jobOf            the job of lent numbers; the one place where a job is put together
 --     carriers         how many carriers there are, which the length of the moves' list tells
 --     start, goal      the start and the goal of the carrier with a number
@@ -26,9 +27,10 @@ pub record Numbers : Type 0 where
   pub network : Network
   pub moves : List ℕ
   pub order : List ℕ
+  pub dwell : ℕ
 
-abbrev pub jobOf : (N : Network) (moves order : List ℕ) → Numbers
-jobOf N moves order = record { network = N; moves = moves; order = order }
+abbrev pub jobOf : (N : Network) (moves order : List ℕ) (dwell : ℕ) → Numbers
+jobOf N moves order dwell = record { network = N; moves = moves; order = order; dwell = dwell }
 
 abbrev pub carriers : Numbers → ℕ
 carriers j = moveCount (j .moves)

@@ -15,4 +15,5 @@ pub mod Ticks
 pub mod Path
 pub mod Plan
 pub mod Safety
+pub mod NoDwell
 pub mod Case

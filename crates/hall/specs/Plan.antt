@@ -1,10 +1,11 @@
--- What a plan of a job is (rules 5.1 to 5.6), and where the distances stand in a lent table (rule 9.8).
+-- What a plan of a job is (rules 5.1 to 5.5), and where the distances stand in a lent table (rule 9.8).
 --     DistancesOf    the six numbers of a pair are the true distances of two moves. The carriers' own are
 --                    distances; each of the other four may be the mark for "no walk"
 --     TablesOf       the tables hold the true distances between starts and goals by carrier numbers, the mark
 --                    included
 --     Plan           the tables are those of the job, each carrier has a walk from its start to its goal, the
---                    ticks are the start ticks by the order, and the cost is the sum of the goal ticks
+--                    ticks are the start ticks by the order and the dwell, and the cost is the sum of the
+--                    goal ticks
 --     tablesIn       the three tables in one list of numbers, a block of 4,096 for each in the order of
 --                    `Tables`; in its block the distance of carriers i and j stands at 64 × i + j
 use mathlib.Core.Path.{_≡_}
@@ -34,7 +35,7 @@ pub record TablesOf (F : Floor) (k : ℕ) (start goal : ℕ → ℕ) (t : Tables
 pub record Plan (j : Numbers) (t : Tables) (tick : ℕ → ℕ) (cost : ℕ) : Type 0 where
   pub true-distances : TablesOf (floor (j .network)) (carriers j) (start j) (goal j) t
   pub reached : (i : ℕ) → i < carriers j → own t i ≢ noWalkMark
-  pub ticks : StartTicks t (j .order) tick
+  pub ticks : StartTicks (j .dwell) t (j .order) tick
   pub cost-is : cost ≡ costOf t tick (carriers j)
 
 abbrev pub tablesIn : List ℕ → Tables

@@ -2,8 +2,9 @@
 -- 8.30). To change an order, or to add a check, is to change a list here. What a question adds of its own
 -- comes in as a statement: `Short`, that a table lent to be filled lacks places; `Unfit`, that the list put
 -- forward is none of the shortest paths.
---     nodesCount, lanesCount, closedCount, carriersCount, orderCount    2, each count at its place: 0, 1, 4,
---                        2 and 3, in this order. The lanes' is how many numbers their list has
+--     nodesCount, lanesCount, closedCount, carriersCount, orderCount, dwellCount    2, each count at its
+--                        place: 0, 1, 4, 2, 3 and 5, in this order. The lanes' is how many numbers their list
+--                        has; the dwell is a number of its own
 --     laneChecks         3, of the lane at a place
 --     eachLane           3, lane by lane
 --     closedChecks       12, of the closed node at a place
@@ -16,7 +17,7 @@
 --     walkChecks         8, of the move at a place
 --     eachWalk           8, for the lowest carrier number
 --     shortTable, lacking, unfit    9, 10 and 11
---     counts             2, of the five counts
+--     counts             2, of the five counts and the dwell
 --     networkQuestion    a network by itself: 2 (nodes, lanes, closed nodes), 3, 12
 --     checksQuestion     the listed checks of a job: 2, 3, 12, then 4, 5 and 13 of each move, then 7
 --     jobQuestion        a job: the same, then 8
@@ -36,7 +37,7 @@ use lib.ListN.{length}
 use Rattle.hall.specs.declared.Fault.the-variants.{BadCount, BadLane, OffFloor, SameEnds}
 use Rattle.hall.specs.declared.Fault.the-variants.{BadOrder, Unreachable, ShortTable, NoCarrier}
 use Rattle.hall.specs.declared.Fault.the-variants.{NotShortest, BadClosed, ClosedEnd}
-use Rattle.hall.specs.Limits.{nodeLimit, laneLimit, carrierLimit}
+use Rattle.hall.specs.Limits.{nodeLimit, laneLimit, carrierLimit, dwellLimit}
 use Rattle.hall.specs.Floor.{NoWalk, Network, laneCount, floor}
 use Rattle.hall.specs.Job.{Numbers, carriers, moveCount, startIn, goalIn}
 use Rattle.hall.specs.Stages.{_when_, Stage, Question, asked, only-at, at-each}
@@ -58,6 +59,9 @@ carriersCount carriers = asked BadCount 2 (carrierLimit < carriers)
 
 abbrev pub orderCount : (order carriers : ℕ) → Stage
 orderCount order carriers = asked BadCount 3 (order ≢ carriers)
+
+abbrev pub dwellCount : ℕ → Stage
+dwellCount dwell = asked BadCount 5 (dwellLimit < dwell)
 
 abbrev pub laneChecks : (nodes : ℕ) → List ℕ → Stage
 laneChecks nodes lanes = BadLane when LaneFault nodes lanes ∷ []
@@ -107,13 +111,14 @@ unfit Unfit = asked NotShortest 0 Unfit
 
 -- ---- a network, a job
 
-abbrev pub counts : (nodes lane-numbers closed carriers order : ℕ) → Question
-counts nodes lane-numbers closed carriers order =
+abbrev pub counts : (nodes lane-numbers closed carriers order dwell : ℕ) → Question
+counts nodes lane-numbers closed carriers order dwell =
     nodesCount nodes
     ∷ lanesCount lane-numbers
     ∷ closedCount closed
     ∷ carriersCount carriers
     ∷ orderCount order carriers
+    ∷ dwellCount dwell
     ∷ []
 
 abbrev pub networkQuestion : Network → Question
@@ -128,7 +133,7 @@ networkQuestion N =
 abbrev pub checksQuestion : Numbers → Question
 checksQuestion j =
     counts (j .network .nodes) (length (j .network .lanes)) (length (j .network .closed))
-    (carriers j) (length (j .order))
+    (carriers j) (length (j .order)) (j .dwell)
     ++ (eachLane (j .network .nodes) (j .network .lanes)
     ∷ eachClosed (j .network .nodes) (j .network .closed)
     ∷ eachMove (j .network .nodes) (j .network .closed) (j .moves)

@@ -1,15 +1,16 @@
--- What the rules say of a job in positive words (rules 1.1, 1.2, 2.1 to 2.4, 2.7, 2.8, 3.1, 3.7 and 3.8), in
--- one record. Of two moves together nothing is said: they may share a start, a goal or both (rule 3.2). A job
--- from numbers is like this exactly if none of the checks of `checksQuestion` holds of it: `well-formed-iff`
--- (proofs/WellFormed.antt). So the checks refuse nothing that the rules allow, and let nothing else pass.
+-- What the rules say of a job in positive words (rules 1.1, 1.2, 1.9, 2.1 to 2.4, 2.7, 2.8, 3.1, 3.7 and
+-- 3.8), in one record. Of two moves together nothing is said: they may share a start, a goal or both (rule
+-- 3.2). A job from numbers is like this exactly if none of the checks of `checksQuestion` holds of it:
+-- `well-formed-iff` (proofs/WellFormed.antt). So the checks refuse nothing that the rules allow, and let
+-- nothing else pass.
 --     WellFormedNetwork N   the node count, the lanes and the closed nodes are as the rules say. That no lane
 --                           stands twice follows: `none-twice`
---     WellFormed j          so are the network, the moves and the order of the job
+--     WellFormed j          so are the network, the moves, the order and the dwell of the job
 use mathlib.Core.Path.{_≡_}
 use mathlib.Core.Logic.{_≢_}
 use Prim.Native.Nat.{ℕ, _%_, _≤_, _<_}
 use lib.ListN.{length, getD}
-use Rattle.hall.specs.Limits.{nodeLimit, laneLimit, carrierLimit}
+use Rattle.hall.specs.Limits.{nodeLimit, laneLimit, carrierLimit, dwellLimit}
 use Rattle.hall.specs.Floor.{Network, laneCount, lower, higher, floor}
 use Rattle.hall.specs.Job.{Numbers, carriers, start, goal, at-place, EndsOn}
 use Rattle.hall.specs.Refusals.{Exceeds}
@@ -30,6 +31,8 @@ pub record WellFormedNetwork (N : Network) : Type 0 where
 
 pub record WellFormed (j : Numbers) : Type 0 where
   pub network-is : WellFormedNetwork (j .network)
+  -- a carrier waits at most 255 ticks
+  pub dwell-few : j .dwell ≤ dwellLimit
   -- at most 64 carriers
   pub carrier-count : carriers j ≤ carrierLimit
   -- each move's start and goal are open nodes, and differ

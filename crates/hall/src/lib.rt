@@ -9,12 +9,13 @@ ghost use Rattle.hall.specs.Limits.{largestJob, emptyJob};
 
 pub mod zero;
 
-// The counts of a job: what reading an accepted text answers.
+// The counts of a job and its dwell: what reading an accepted text answers.
 pub struct Job {
     pub nodes: usize,
     pub lanes: usize,
     pub closed: usize,
     pub carriers: usize,
+    pub dwell: usize,
 }
 
 impl Job {
@@ -23,6 +24,9 @@ impl Job {
     pub const LANES: usize = 4096;
 
     pub const CARRIERS: usize = 64;
+
+    // So many ticks at most a carrier stands on its goal after its goal tick.
+    pub const DWELL: usize = 255;
 
     // Two numbers for each lane, and for each move, that a job can have.
     pub const LANE_NUMBERS: usize = 2 * Job::LANES;
@@ -35,7 +39,7 @@ impl Job {
     pub const TABLE: usize = 3 * Job::BLOCK;
 
     // So many bytes hold the text of any job that is written: the least length of its output.
-    pub const TEXT_BYTES: usize = 47132;
+    pub const TEXT_BYTES: usize = 47142;
 
     // What stands for "no walk" in the place of a distance.
     pub const NO_WALK: u16 = 65535;
@@ -49,10 +53,11 @@ impl Job {
             lanes: Job::LANES,
             closed: Job::NODES,
             carriers: Job::CARRIERS,
+            dwell: Job::DWELL,
         }
     }
 
-    // A job without carriers. A hall has a node at least, so it has one, and no lane.
+    // A job without carriers. A hall has a node at least, so it has one, and no lane; nobody waits.
     pub fn empty() -> Self
         ensures { λ r. ⌜ r ≡ emptyJob ⌝ }
     {
@@ -61,6 +66,7 @@ impl Job {
             lanes: 0,
             closed: 0,
             carriers: 0,
+            dwell: 0,
         }
     }
 }

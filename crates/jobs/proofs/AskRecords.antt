@@ -19,27 +19,27 @@ use Rattle.jobs.specs.Asking.{RecordsKept, HouseGiven, ListGiven, HouseO
 use Rattle.jobs.specs.Loading.{loaded}
 use Rattle.jobs.proofs.Loading.{zeros130, loaded-as}
 
-module _ (N : Network) (rs : List Record) (order : List ℕ) (c : ℕ) where
+module _ (N : Network) (rs : List Record) (order : List ℕ) (dwell c : ℕ) where
   kept : RecordsKept N N rs rs order order
   kept = record { network-kept = refl; records-kept = refl; order-kept = refl }
 
   pub records-housed : (path path′ : List ℕ) (r : Housed) →
-      HouseGiven (jobOf N (loaded (length rs) (moved rs zeros130)) order) c path path′ r →
-      HouseOfRecords N N rs rs order order c path path′ r
+      HouseGiven (jobOf N (loaded (length rs) (moved rs zeros130)) order dwell) c path path′ r →
+      HouseOfRecords N N rs rs order order dwell c path path′ r
   records-housed path path′ r a = record {
     given =
-        loaded-as rs (λ ms. HouseGiven (jobOf N ms order) c path path′ r)
-        (λ ms ms′ many many′. crowded-house N order ms ms′ many many′ c path path′ (saidHoused r)) a;
+        loaded-as rs (λ ms. HouseGiven (jobOf N ms order dwell) c path path′ r)
+        (λ ms ms′ many many′. crowded-house N order dwell ms ms′ many many′ c path path′ (saidHoused r)) a;
     kept = kept;
   }
 
   pub records-judged : (list : List ℕ) (r : Checked) →
-      ListGiven (jobOf N (loaded (length rs) (moved rs zeros130)) order) c list r →
-      ListOfRecords N N rs rs order order c list list r
+      ListGiven (jobOf N (loaded (length rs) (moved rs zeros130)) order dwell) c list r →
+      ListOfRecords N N rs rs order order dwell c list list r
   records-judged list r a = record {
     given =
-        loaded-as rs (λ ms. ListGiven (jobOf N ms order) c list r)
-        (λ ms ms′ many many′. crowded-list N order ms ms′ many many′ c list r) a;
+        loaded-as rs (λ ms. ListGiven (jobOf N ms order dwell) c list r)
+        (λ ms ms′ many many′. crowded-list N order dwell ms ms′ many many′ c list r) a;
     kept = kept;
     list-kept = refl;
   }

@@ -31,9 +31,9 @@ use Rattle.asks.proofs.OneOfJob.{move-sound}
 use Rattle.jobs.specs.Job.{recordJob}
 use Rattle.jobs.specs.Asking.{HouseOfRecords, ListOfRecords}
 
-module _ (N : Network) (records : List Record) (order : List ℕ) (c : ℕ) where
+module _ (N : Network) (records : List Record) (order : List ℕ) (dwell c : ℕ) where
   abbrev j : Numbers
-  j = recordJob N records order
+  j = recordJob N records order dwell
 
   abbrev Shortest : List ℕ → Type 0
   Shortest list = ShortestPath (floor N) (start j c) (goal j c) list
@@ -44,17 +44,17 @@ module _ (N : Network) (records : List Record) (order : List ℕ) (c : ℕ) wher
   -- ---- the question about one list
 
   module _ (M : Network) (rs : List Record) (o list list′ : List ℕ) where
-    pub sound-none : ListOfRecords N M records rs order o c list list′ Sound → None (askedQuestion j c)
+    pub sound-none : ListOfRecords N M records rs order o dwell c list list′ Sound → None (askedQuestion j c)
     sound-none a = none-split (askedQuestion j c) (unfit (unfitFor list) ∷ []) (a .given) .0
 
-    pub sound-shortest : ListOfRecords N M records rs order o c list list′ Sound → Shortest list
+    pub sound-shortest : ListOfRecords N M records rs order o dwell c list list′ Sound → Shortest list
     sound-shortest a =
         none-passes N (start j c) (goal j c) list
         (none-append (move-sound j c (sound-none a)) (none-split (askedQuestion j c) (unfit (unfitFor list) ∷ []) (a .given) .1))
         .shortest
 
     pub shortest-sound : (r : Checked) → None (askedQuestion j c) → Shortest list →
-        ListOfRecords N M records rs order o c list list′ r → r ≡ Sound
+        ListOfRecords N M records rs order o dwell c list list′ r → r ≡ Sound
     shortest-sound r none s a =
         judged-unique (listOfJob j c (unfitFor list)) r Sound (a .given)
         (none-append none (asked-clear (λ u. u s) none-at-all))
@@ -62,7 +62,7 @@ module _ (N : Network) (records : List Record) (order : List ℕ) (c : ℕ) wher
   -- ---- the house path
 
   module _ (M : Network) (rs : List Record) (o path path′ : List ℕ) (count : ℕ)
-      (a : HouseOfRecords N M records rs order o c path path′ (Nodes count)) where
+      (a : HouseOfRecords N M records rs order o dwell c path path′ (Nodes count)) where
     pub house-shortest : Shortest (take count path′)
     house-shortest =
         let house = a .given .1 .is-house-path in
@@ -72,6 +72,6 @@ module _ (N : Network) (records : List Record) (order : List ℕ) (c : ℕ) wher
     house-least other s = house-first (a .given .1 .is-house-path) s
 
     pub house-sound : (O : Network) (qs : List Record) (p list′ : List ℕ) (r : Checked) →
-        ListOfRecords N O records qs order p c (take count path′) list′ r → r ≡ Sound
+        ListOfRecords N O records qs order p dwell c (take count path′) list′ r → r ≡ Sound
     house-sound O qs p list′ r b =
         shortest-sound O qs p (take count path′) list′ r (none-asked (a .given .0) .1) house-shortest b

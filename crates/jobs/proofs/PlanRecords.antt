@@ -44,9 +44,10 @@ table-short (short-ticks h) = absurd (let x : ⊥ = omega (arith, length-replica
 
 -- ---- the records that are written
 
-module _ (N : Network) (rs : List Record) (order table table′ ds ks : List ℕ) where
+module _ (N : Network) (rs : List Record) (order : List ℕ) (dwell : ℕ)
+    (table table′ ds ks : List ℕ) where
   abbrev j : Numbers
-  j = recordJob N rs order
+  j = recordJob N rs order dwell
 
   module _ (c : ℕ) (a : NumbersPlanned j (lent table zeros64 zeros64) (lent table′ ds ks) c) where
     few : length rs ≤ carrierLimit
@@ -107,10 +108,13 @@ module _ (N : Network) (rs : List Record) (order table table′ ds ks : List ℕ
 
   -- planning from the numbers of some moves
   abbrev PlannedOf : Planned → List ℕ → Type 0
-  PlannedOf r ms = Planning (jobOf N ms order) (lent table zeros64 zeros64) (lent table′ ds ks) (saidPlanned r)
+  PlannedOf r ms =
+      Planning (jobOf N ms order dwell) (lent table zeros64 zeros64) (lent table′ ds ks) (saidPlanned r)
 
-  pub records-planned : (rs′ : List Record) (r : Planned) → PlannedOf r (loaded (length rs) (moved rs zeros130)) →
-      rs′ ≡ timed (storedCount r (length rs)) rs ds ks → RecordPlanning N N rs rs′ order order table table′ r
+  pub records-planned : (rs′ : List Record) (r : Planned) →
+      PlannedOf r (loaded (length rs) (moved rs zeros130)) →
+      rs′ ≡ timed (storedCount r (length rs)) rs ds ks →
+      RecordPlanning N N rs rs′ order order dwell table table′ r
   records-planned rs′ r a e = record {
     given = rw e (given-records r (loaded-as rs (PlannedOf r) alike a));
     network-kept = refl;
@@ -120,4 +124,5 @@ module _ (N : Network) (rs : List Record) (order table table′ ds ks : List ℕ
       alike : (ms ms′ : List ℕ) → carrierLimit < moveCount ms → carrierLimit < moveCount ms′ →
           PlannedOf r ms → PlannedOf r ms′
       alike ms ms′ many many′ =
-          planning-alike N order ms ms′ many many′ (lent table zeros64 zeros64) (lent table′ ds ks) (saidPlanned r)
+          planning-alike N order dwell ms ms′ many many′
+          (lent table zeros64 zeros64) (lent table′ ds ks) (saidPlanned r)

@@ -1,7 +1,8 @@
 -- The job that an accepted reading leaves in the tables is the one that the text writes. Each table begins
--- with the job's numbers, and the counts say how many these are; the records made of moves have those moves.
--- So what is cut out of the tables by the counts is the job that was read, and the text is its written form;
--- it has no fault of the listed checks, and planning it can give 8 only. Assumes nothing.
+-- with the job's numbers, and the counts say how many these are; the records made of moves have those moves,
+-- and the dwell is that of the job. So what is cut out of the tables by the counts is the job that was read,
+-- and the text is its written form; it has no fault of the listed checks, and planning it can give 8 only.
+-- Assumes nothing.
 --     read-back          the job in the tables is the job that was read
 --     read-is-written    the text is the written form of the job in the tables
 use mathlib.Core.Path.{_≡_, refl, sym, _∙_, ap, subst}
@@ -55,7 +56,7 @@ module _ (text lanes lanes′ closed closed′ : List ℕ) (records records′ :
       ∙ front-records (j .moves) (carriers j) records (a .writes .paired) in
       let o = (λ i. take (c i .carriers) (a .order-left i))
       ∙ filled-front (j .order) carrierLimit order _ (order-length j sound) in
-      λ i. jobOf (networkOf (c i .nodes) (l i) (v i)) (m i) (o i)
+      λ i. jobOf (networkOf (c i .nodes) (l i) (v i)) (m i) (o i) (c i .dwell)
 
   pub read-is-written : WrittenJob text (jobRead counts lanes′ closed′ records′ order′)
   read-is-written = subst (WrittenJob text) (sym read-back) (a .writes)

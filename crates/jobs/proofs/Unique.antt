@@ -75,9 +75,9 @@ same-record s g d t = λ i. record { start = s i; goal = g i; distance = d i; ti
 pub planned-sound : (j : Numbers) (table : List ℕ) → None (recordQuestion j table) → None (checksQuestion j)
 planned-sound j table none = checks-of-none j (none-asked none .1)
 
-module _ (N : Network) (records : List Record) (order table : List ℕ) where
+module _ (N : Network) (records : List Record) (order : List ℕ) (dwell : ℕ) (table : List ℕ) where
   abbrev j : Numbers
-  j = recordJob N records order
+  j = recordJob N records order dwell
 
   room : (a b : ℕ) → ¬ (a < b) → b ≤ a
   room a b h = omega arith
@@ -137,7 +137,8 @@ module _ (N : Network) (records : List Record) (order table : List ℕ) where
       (ap Refused (λ i. record { fault = same i; place = e .0 .1 i }), e .1, e .2)
 
   pub plan-unique : (r s : Planned) (M O : Network) (rs qs : List Record) (o p t u : List ℕ) →
-      RecordPlanning N M records rs order o table t r → RecordPlanning N O records qs order p table u s →
+      RecordPlanning N M records rs order o dwell table t r →
+      RecordPlanning N O records qs order p dwell table u s →
       (r ≡ s) × (M ≡ O) × (rs ≡ qs) × (o ≡ p) × (t ≡ u)
   plan-unique r s M O rs qs o p t u a b =
       let e = given-unique rs qs t u r s (a .given) (b .given) in
@@ -156,32 +157,36 @@ kept-same a b = (
 
 -- ---- writing
 
-module _ (N : Network) (records : List Record) (order : List ℕ) (M O : Network) (rs qs : List Record)
-    (o p : List ℕ) where
+module _ (N : Network) (records : List Record) (order : List ℕ) (dwell : ℕ) (M O : Network)
+    (rs qs : List Record) (o p : List ℕ) where
   pub write-unique : (out t u : List ℕ) (r s : Written) →
-      RecordWriting N M records rs order o out t r → RecordWriting N O records qs order p out u s →
+      RecordWriting N M records rs order o dwell out t r →
+      RecordWriting N O records qs order p dwell out u s →
       ((r ≡ s) × (t ≡ u)) × ((M ≡ O) × (rs ≡ qs) × (o ≡ p))
   write-unique out t u r s a b =
-      (writing-unique (recordJob N records order) out r s t u (a .given) (b .given), kept-same (a .kept) (b .kept))
+      let j = recordJob N records order dwell in
+      (writing-unique j out r s t u (a .given) (b .given), kept-same (a .kept) (b .kept))
 
 -- ---- one carrier's path
 
-module _ (N : Network) (records : List Record) (order : List ℕ) (c : ℕ) (M O : Network) (rs qs : List Record)
-    (o p : List ℕ) where
+module _ (N : Network) (records : List Record) (order : List ℕ) (dwell c : ℕ) (M O : Network)
+    (rs qs : List Record) (o p : List ℕ) where
   pub house-unique : (path t u : List ℕ) (r s : Housed) →
-      HouseOfRecords N M records rs order o c path t r → HouseOfRecords N O records qs order p c path u s →
+      HouseOfRecords N M records rs order o dwell c path t r →
+      HouseOfRecords N O records qs order p dwell c path u s →
       ((r ≡ s) × (t ≡ u)) × ((M ≡ O) × (rs ≡ qs) × (o ≡ p))
   house-unique path t u r s a b =
-      let j = recordJob N records order in (
+      let j = recordJob N records order dwell in (
         left-unique (houseOfJob (length path < nodeLimit) j c) N (start j c) (goal j c) path t u r s (a .given) (b .given),
         kept-same (a .kept) (b .kept),
       )
 
   pub judge-unique : (list t u : List ℕ) (r s : Checked) →
-      ListOfRecords N M records rs order o c list t r → ListOfRecords N O records qs order p c list u s →
+      ListOfRecords N M records rs order o dwell c list t r →
+      ListOfRecords N O records qs order p dwell c list u s →
       ((r ≡ s) × (t ≡ u)) × ((M ≡ O) × (rs ≡ qs) × (o ≡ p))
   judge-unique list t u r s a b =
-      let j = recordJob N records order in (
+      let j = recordJob N records order dwell in (
         (
           judged-unique (listOfJob j c (Unfit N (start j c) (goal j c) list)) r s (a .given) (b .given),
           a .list-kept ∙ sym (b .list-kept),

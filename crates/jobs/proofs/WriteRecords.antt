@@ -17,12 +17,13 @@ use Rattle.jobs.specs.Writing.{RecordWriting}
 use Rattle.jobs.specs.Loading.{loaded}
 use Rattle.jobs.proofs.Loading.{zeros130, loaded-as}
 
-pub records-written : (N : Network) (rs : List Record) (order out out′ : List ℕ) (r : Written) →
-    Writing (jobOf N (loaded (length rs) (moved rs zeros130)) order) out out′ (saidWritten r) →
-    RecordWriting N N rs rs order order out out′ r
-records-written N rs order out out′ r a = record {
+pub records-written : (N : Network) (rs : List Record) (order : List ℕ) (dwell : ℕ) (out out′ : List ℕ)
+    (r : Written) →
+    Writing (jobOf N (loaded (length rs) (moved rs zeros130)) order dwell) out out′ (saidWritten r) →
+    RecordWriting N N rs rs order order dwell out out′ r
+records-written N rs order dwell out out′ r a = record {
   given =
-      loaded-as rs (λ ms. Writing (jobOf N ms order) out out′ (saidWritten r))
-      (λ ms ms′ many many′. writing-alike N order ms ms′ many many′ out out′ (saidWritten r)) a;
+      loaded-as rs (λ ms. Writing (jobOf N ms order dwell) out out′ (saidWritten r))
+      (λ ms ms′ many many′. writing-alike N order dwell ms ms′ many many′ out out′ (saidWritten r)) a;
   kept = record { network-kept = refl; records-kept = refl; order-kept = refl };
 }

@@ -38,13 +38,13 @@ HouseGiven j c path path′ r =
 abbrev pub ListGiven : (j : Numbers) (c : ℕ) (list : List ℕ) → Checked → Type 0
 ListGiven j c list r = Judged (listOfJob j c (Unfit (j .network) (start j c) (goal j c) list)) r
 
-pub record HouseOfRecords (N N′ : Network) (records records′ : List Record) (order order′ : List ℕ) (c : ℕ)
-    (path path′ : List ℕ) (r : Housed) : Type 0 where
-  pub given : HouseGiven (recordJob N records order) c path path′ r
+pub record HouseOfRecords (N N′ : Network) (records records′ : List Record) (order order′ : List ℕ)
+    (dwell c : ℕ) (path path′ : List ℕ) (r : Housed) : Type 0 where
+  pub given : HouseGiven (recordJob N records order dwell) c path path′ r
   pub kept : RecordsKept N N′ records records′ order order′
 
-pub record ListOfRecords (N N′ : Network) (records records′ : List Record) (order order′ : List ℕ) (c : ℕ)
-    (list list′ : List ℕ) (r : Checked) : Type 0 where
-  pub given : ListGiven (recordJob N records order) c list r
+pub record ListOfRecords (N N′ : Network) (records records′ : List Record) (order order′ : List ℕ)
+    (dwell c : ℕ) (list list′ : List ℕ) (r : Checked) : Type 0 where
+  pub given : ListGiven (recordJob N records order dwell) c list r
   pub kept : RecordsKept N N′ records records′ order order′
   pub list-kept : list′ ≡ list

@@ -2,8 +2,8 @@
 -- 12.2 and 12.3). Demand 3 is `Demand3` of the crate hall.
 --     Demand2             the distances in the table and in the records are the true ones, over open nodes;
 --                         each carrier in the order's turn has the smallest tick, from 0 up, that those
---                         before it permit; the cost is the sum of the goal ticks, each a start tick and a
---                         distance
+--                         before it permit with the job's dwell; the cost is the sum of the goal ticks, each
+--                         a start tick and a distance
 --     NoEarlierFault      the table is long enough and nothing of the listed checks holds, so that only 8 is
 --                         left to be given
 use mathlib.Core.Path.{_≡_}
@@ -26,7 +26,7 @@ pub record Demand2 (j : Numbers) (records′ : List Record) (table′ : List ℕ
       Dist (floor (j .network)) (start j i) (goal j i) (distanceOf records′ i)
   pub smallest-tick : (q : ℕ) → q < length (j .order) →
       SmallestFrom 0
-      (PermittedAt (tablesIn table′) (j .order) (tickOf records′) q)
+      (PermittedAt (j .dwell) (tablesIn table′) (j .order) (tickOf records′) q)
       (tickOf records′ (at-place j q))
   pub cost-is-sum : cost ≡ total (carriers j) (λ i. tickOf records′ i + distanceOf records′ i)
 

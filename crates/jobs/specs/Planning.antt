@@ -69,7 +69,7 @@ GivenRecords j records records′ table table′ (refused n p) =
     RecordsRefused j records records′ table table′ n p
 
 pub record RecordPlanning (N N′ : Network) (records records′ : List Record) (order order′ : List ℕ)
-    (table table′ : List ℕ) (r : Planned) : Type 0 where
-  pub given : GivenRecords (recordJob N records order) records records′ table table′ (saidPlanned r)
+    (dwell : ℕ) (table table′ : List ℕ) (r : Planned) : Type 0 where
+  pub given : GivenRecords (recordJob N records order dwell) records records′ table table′ (saidPlanned r)
   pub network-kept : N′ ≡ N
   pub order-kept : order′ ≡ order

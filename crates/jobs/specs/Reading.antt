@@ -1,6 +1,7 @@
--- What reading a job text into lent tables promises, for every input (rules 7.13, 7.17, 8.21, 9.1, 9.5
--- and 9.6): it fills lanes, closed nodes, records and order. When a text is accepted as which job, and refused
--- with which number at which line, is said in crate form. A list with ′ is as the question leaves it.
+-- What reading a job text into lent tables promises, for every input (rules 7.13, 7.17, 7.18, 8.21, 9.1, 9.5
+-- and 9.6): it fills lanes, closed nodes, records and order, and answers the dwell with the counts. When a
+-- text is accepted as which job, and refused with which number at which line, is said in crate form. A list
+-- with ′ is as the question leaves it.
 --     LentShort       9: lanes, closed nodes, records or order have fewer places than their least lengths;
 --                     `RecordsShort` by the tables' lengths
 --     recordsOf       the records of the moves of a job, by carrier number, with distance and tick zero
@@ -8,13 +9,13 @@
 --     leftRecords     the records after the refusal with a number: 9 leaves them as they came, every other
 --                     leaves 64 blank ones
 --     JobAccepted     no table is too short, the text is the written form of a job without faults, these are
---                     its counts, and the tables are filled with its numbers
+--                     its counts and its dwell, and the tables are filled with its numbers
 --     JobRefused      there is a reason (reader's `Reason`: 9 at line 0, or what the form says of the text),
 --                     and this is left in the tables
 --     GivenJob        what is left with what is said: accepted or refused so
 --     ReadLeft        the promise: that, and the text is as it came
---     jobRead         the job that the counts of an answer cut out of the tables: the numbers that a caller
---                     hands on to planning
+--     jobRead         the job that the counts of an answer cut out of the tables, with the dwell that is
+--                     answered: the numbers that a caller hands on to planning
 use mathlib.Core.Path.{_≡_}
 use mathlib.Core.Logic.{_⊎_}
 use mathlib.Core.Bool.{cond}
@@ -99,3 +100,4 @@ jobRead counts lanes′ closed′ records′ order′ =
     (networkOf (counts .nodes) (take (2 * counts .lanes) lanes′) (take (counts .closed) closed′))
     (take (counts .carriers) records′)
     (take (counts .carriers) order′)
+    (counts .dwell)

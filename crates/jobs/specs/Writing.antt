@@ -13,6 +13,6 @@ use Rattle.jobs.specs.Job.{recordJob}
 use Rattle.jobs.specs.Asking.{RecordsKept}
 
 pub record RecordWriting (N N′ : Network) (records records′ : List Record) (order order′ : List ℕ)
-    (out out′ : List ℕ) (r : Written) : Type 0 where
-  pub given : Writing (recordJob N records order) out out′ (saidWritten r)
+    (dwell : ℕ) (out out′ : List ℕ) (r : Written) : Type 0 where
+  pub given : Writing (recordJob N records order dwell) out out′ (saidWritten r)
   pub kept : RecordsKept N N′ records records′ order order′

@@ -84,7 +84,8 @@ fn placed_count(lanes: usize, closed: usize, records: usize, order: usize) -> us
 }
 
 // Reads a job text: the lanes' numbers go to `lanes`, the closed nodes to `closed`, the carriers' starts and
-// goals to the first 64 `records`, with distance and tick 0, the order to `order`.
+// goals to the first 64 `records`, with distance and tick 0, the order to `order`. The counts and the dwell
+// are answered.
 pub fn read_job(
     text: &[u8],
     lanes: &mut [u16],
@@ -108,7 +109,7 @@ pub fn read_job(
 
 // ---- writing
 
-// Writes a job as its text, to the front of an output of 47,132 bytes at least; answers how many bytes the
+// Writes a job as its text, to the front of an output of 47,142 bytes at least; answers how many bytes the
 // text has, or the first refusal. What is left in the output is as `writer::write_numbers` leaves it.
 pub fn write_job(
     nodes: usize,
@@ -116,6 +117,7 @@ pub fn write_job(
     closed: &[u16],
     records: &[Record],
     order: &[u16],
+    dwell: usize,
     out: &mut [u8],
 ) -> Written
     ensures { λ r. ⌜ RecordWriting
@@ -123,12 +125,22 @@ pub fn write_job(
         (networkOf nodes (now (lanes .exit)) (now (closed .exit)))
         (now (records .entry)) (now (records .exit))
         (now (order .entry)) (now (order .exit))
+        dwell
         (now (out .entry)) (now (out .exit))
         r ⌝ }
 {
     let mut moves = [0u16; LOADED_NUMBERS];
     load_moves(records, &mut moves);
-    write_loaded(nodes, lanes, closed, records.len(), &moves, order, out)
+    write_loaded(
+        nodes,
+        lanes,
+        closed,
+        records.len(),
+        &moves,
+        order,
+        dwell,
+        out,
+    )
 }
 
 // ---- planning
@@ -151,6 +163,7 @@ pub fn plan(
     closed: &[u16],
     records: &mut [Record],
     order: &[u16],
+    dwell: usize,
     table: &mut [u16],
 ) -> Planned
     ensures { λ r. ⌜ RecordPlanning
@@ -158,6 +171,7 @@ pub fn plan(
         (networkOf nodes (now (lanes .exit)) (now (closed .exit)))
         (now (records .entry)) (now (records .exit))
         (now (order .entry)) (now (order .exit))
+        dwell
         (now (table .entry)) (now (table .exit))
         r ⌝ }
 {
@@ -173,6 +187,7 @@ pub fn plan(
         n,
         &moves,
         order,
+        dwell,
         table,
         &mut distances,
         &mut ticks,
@@ -192,6 +207,7 @@ pub fn house(
     closed: &[u16],
     records: &[Record],
     order: &[u16],
+    dwell: usize,
     carrier: Carrier,
     path: &mut [u16],
 ) -> Housed
@@ -200,6 +216,7 @@ pub fn house(
         (networkOf nodes (now (lanes .exit)) (now (closed .exit)))
         (now (records .entry)) (now (records .exit))
         (now (order .entry)) (now (order .exit))
+        dwell
         (carrier .0)
         (now (path .entry)) (now (path .exit))
         r ⌝ }
@@ -213,6 +230,7 @@ pub fn house(
         records.len(),
         &moves,
         order,
+        dwell,
         carrier,
         path,
     )
@@ -225,6 +243,7 @@ pub fn judge(
     closed: &[u16],
     records: &[Record],
     order: &[u16],
+    dwell: usize,
     carrier: Carrier,
     list: &[u16],
 ) -> Checked
@@ -233,6 +252,7 @@ pub fn judge(
         (networkOf nodes (now (lanes .exit)) (now (closed .exit)))
         (now (records .entry)) (now (records .exit))
         (now (order .entry)) (now (order .exit))
+        dwell
         (carrier .0)
         (now (list .entry)) (now (list .exit))
         r ⌝ }
@@ -246,6 +266,7 @@ pub fn judge(
         records.len(),
         &moves,
         order,
+        dwell,
         carrier,
         list,
     )

@@ -58,6 +58,7 @@ pub(crate) fn plan_loaded(
     records: usize,
     moves: &[u16],
     order: &[u16],
+    dwell: usize,
     table: &mut [u16],
     distances: &mut [u16],
     ticks: &mut [u32],
@@ -66,7 +67,8 @@ pub(crate) fn plan_loaded(
         (jobOf
         (networkOf nodes (now (lanes .entry)) (now (closed .entry)))
         (loaded records (now (moves .entry)))
-        (now (order .entry)))
+        (now (order .entry))
+        dwell)
         (lent (now (table .entry)) (now (distances .entry)) (now (ticks .entry)))
         (lent (now (table .exit)) (now (distances .exit)) (now (ticks .exit)))
         (saidPlanned r) ⌝ }
@@ -77,6 +79,7 @@ pub(crate) fn plan_loaded(
         closed,
         part(records, moves),
         order,
+        dwell,
         table,
         distances,
         ticks,
@@ -91,6 +94,7 @@ pub(crate) fn house_loaded(
     records: usize,
     moves: &[u16],
     order: &[u16],
+    dwell: usize,
     carrier: Carrier,
     path: &mut [u16],
 ) -> Housed
@@ -98,7 +102,8 @@ pub(crate) fn house_loaded(
         (jobOf
         (networkOf nodes (now (lanes .entry)) (now (closed .entry)))
         (loaded records (now (moves .entry)))
-        (now (order .entry)))
+        (now (order .entry))
+        dwell)
         (carrier .0)
         (now (path .entry)) (now (path .exit))
         r ⌝ }
@@ -109,6 +114,7 @@ pub(crate) fn house_loaded(
         closed,
         part(records, moves),
         order,
+        dwell,
         carrier,
         path,
     )
@@ -122,6 +128,7 @@ pub(crate) fn judge_loaded(
     records: usize,
     moves: &[u16],
     order: &[u16],
+    dwell: usize,
     carrier: Carrier,
     list: &[u16],
 ) -> Checked
@@ -129,7 +136,8 @@ pub(crate) fn judge_loaded(
         (jobOf
         (networkOf nodes (now (lanes .entry)) (now (closed .entry)))
         (loaded records (now (moves .entry)))
-        (now (order .entry)))
+        (now (order .entry))
+        dwell)
         (carrier .0)
         (now (list .entry))
         r ⌝ }
@@ -140,6 +148,7 @@ pub(crate) fn judge_loaded(
         closed,
         part(records, moves),
         order,
+        dwell,
         carrier,
         list,
     )
@@ -153,15 +162,25 @@ pub(crate) fn write_loaded(
     records: usize,
     moves: &[u16],
     order: &[u16],
+    dwell: usize,
     out: &mut [u8],
 ) -> Written
     ensures { λ r. ⌜ Writing
         (jobOf
         (networkOf nodes (now (lanes .entry)) (now (closed .entry)))
         (loaded records (now (moves .entry)))
-        (now (order .entry)))
+        (now (order .entry))
+        dwell)
         (now (out .entry)) (now (out .exit))
         (saidWritten r) ⌝ }
 {
-    write_numbers(nodes, lanes, closed, part(records, moves), order, out)
+    write_numbers(
+        nodes,
+        lanes,
+        closed,
+        part(records, moves),
+        order,
+        dwell,
+        out,
+    )
 }

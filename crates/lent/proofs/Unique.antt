@@ -37,35 +37,43 @@ module _ (count : ℕ) (fields f g : List ℕ) where
       in
       (e .0, e .1, e .2, e .3, e .5, lending-unique _ _ count fields f g a b (e .4))
 
-  module _ (N M O : Network) (order o p : List ℕ) where
+  module _ (N M O : Network) (order o p : List ℕ) (dwell : ℕ) where
     pub plan-lent-unique : (table t u : List ℕ) (r s : Planned)
-        → LentPlanning N M count order o table t fields f r
-        → LentPlanning N O count order p table u fields g s
+        → LentPlanning N M count order o dwell table t fields f r
+        → LentPlanning N O count order p dwell table u fields g s
         → (r ≡ s) × (M ≡ O) × (o ≡ p) × (t ≡ u) × (f ≡ g)
     plan-lent-unique table t u r s a b =
-        let e = plan-unique N front order table r s M O (a .left) (b .left) o p t u (a .asked) (b .asked) in
+        let e =
+        plan-unique N front order dwell table r s M O (a .left) (b .left) o p t u (a .asked) (b .asked)
+        in
         (e .0, e .1, e .3, e .4, lending-unique _ _ count fields f g a b (e .2))
 
     pub house-lent-unique : (c : ℕ) (path t u : List ℕ) (r s : Housed)
-        → LentHouse N M count order o c path t fields f r
-        → LentHouse N O count order p c path u fields g s
+        → LentHouse N M count order o dwell c path t fields f r
+        → LentHouse N O count order p dwell c path u fields g s
         → (r ≡ s) × (M ≡ O) × (o ≡ p) × (t ≡ u) × (f ≡ g)
     house-lent-unique c path t u r s a b =
-        let e = house-unique N front order c M O (a .left) (b .left) o p path t u r s (a .asked) (b .asked) in
+        let e =
+        house-unique N front order dwell c M O (a .left) (b .left) o p path t u r s (a .asked) (b .asked)
+        in
         (e .0 .0, e .1 .0, e .1 .2, e .0 .1, lending-unique _ _ count fields f g a b (e .1 .1))
 
     pub judge-lent-unique : (c : ℕ) (list t u : List ℕ) (r s : Checked)
-        → LentList N M count order o c list t fields f r
-        → LentList N O count order p c list u fields g s
+        → LentList N M count order o dwell c list t fields f r
+        → LentList N O count order p dwell c list u fields g s
         → (r ≡ s) × (M ≡ O) × (o ≡ p) × (t ≡ u) × (f ≡ g)
     judge-lent-unique c list t u r s a b =
-        let e = judge-unique N front order c M O (a .left) (b .left) o p list t u r s (a .asked) (b .asked) in
+        let e =
+        judge-unique N front order dwell c M O (a .left) (b .left) o p list t u r s (a .asked) (b .asked)
+        in
         (e .0 .0, e .1 .0, e .1 .2, e .0 .1, lending-unique _ _ count fields f g a b (e .1 .1))
 
     pub write-lent-unique : (out t u : List ℕ) (r s : Written)
-        → LentWriting N M count order o out t fields f r
-        → LentWriting N O count order p out u fields g s
+        → LentWriting N M count order o dwell out t fields f r
+        → LentWriting N O count order p dwell out u fields g s
         → (r ≡ s) × (M ≡ O) × (o ≡ p) × (t ≡ u) × (f ≡ g)
     write-lent-unique out t u r s a b =
-        let e = write-unique N front order M O (a .left) (b .left) o p out t u r s (a .asked) (b .asked) in
+        let e =
+        write-unique N front order dwell M O (a .left) (b .left) o p out t u r s (a .asked) (b .asked)
+        in
         (e .0 .0, e .1 .0, e .1 .2, e .0 .1, lending-unique _ _ count fields f g a b (e .1 .1))

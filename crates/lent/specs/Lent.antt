@@ -97,26 +97,26 @@ LentReading text text′ lanes lanes′ closed closed′ count order order′ fi
     Lending (λ records left. ReadLeft text text′ lanes lanes′ closed closed′ records left order order′ r)
     count fields fields′
 
-abbrev pub LentPlanning : (N N′ : Network) (count : ℕ) (order order′ table table′ fields fields′ : List ℕ)
-    → Planned → Type 0
-LentPlanning N N′ count order order′ table table′ fields fields′ r =
-    Lending (λ records left. RecordPlanning N N′ records left order order′ table table′ r)
+abbrev pub LentPlanning : (N N′ : Network) (count : ℕ) (order order′ : List ℕ) (dwell : ℕ)
+    (table table′ fields fields′ : List ℕ) → Planned → Type 0
+LentPlanning N N′ count order order′ dwell table table′ fields fields′ r =
+    Lending (λ records left. RecordPlanning N N′ records left order order′ dwell table table′ r)
     count fields fields′
 
-abbrev pub LentHouse : (N N′ : Network) (count : ℕ) (order order′ : List ℕ) (c : ℕ)
+abbrev pub LentHouse : (N N′ : Network) (count : ℕ) (order order′ : List ℕ) (dwell c : ℕ)
     (path path′ fields fields′ : List ℕ) → Housed → Type 0
-LentHouse N N′ count order order′ c path path′ fields fields′ r =
-    Lending (λ records left. HouseOfRecords N N′ records left order order′ c path path′ r)
+LentHouse N N′ count order order′ dwell c path path′ fields fields′ r =
+    Lending (λ records left. HouseOfRecords N N′ records left order order′ dwell c path path′ r)
     count fields fields′
 
-abbrev pub LentList : (N N′ : Network) (count : ℕ) (order order′ : List ℕ) (c : ℕ)
+abbrev pub LentList : (N N′ : Network) (count : ℕ) (order order′ : List ℕ) (dwell c : ℕ)
     (list list′ fields fields′ : List ℕ) → Checked → Type 0
-LentList N N′ count order order′ c list list′ fields fields′ r =
-    Lending (λ records left. ListOfRecords N N′ records left order order′ c list list′ r)
+LentList N N′ count order order′ dwell c list list′ fields fields′ r =
+    Lending (λ records left. ListOfRecords N N′ records left order order′ dwell c list list′ r)
     count fields fields′
 
-abbrev pub LentWriting : (N N′ : Network) (count : ℕ) (order order′ : List ℕ)
+abbrev pub LentWriting : (N N′ : Network) (count : ℕ) (order order′ : List ℕ) (dwell : ℕ)
     (out out′ fields fields′ : List ℕ) → Written → Type 0
-LentWriting N N′ count order order′ out out′ fields fields′ r =
-    Lending (λ records left. RecordWriting N N′ records left order order′ out out′ r)
+LentWriting N N′ count order order′ dwell out out′ fields fields′ r =
+    Lending (λ records left. RecordWriting N N′ records left order order′ dwell out out′ r)
     count fields fields′

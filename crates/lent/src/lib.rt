@@ -168,6 +168,7 @@ pub fn plan_lent(
     closed: &[u16],
     count: usize,
     order: &[u16],
+    dwell: usize,
     table: &mut [u16],
     fields: &mut [u32],
 ) -> Planned
@@ -176,13 +177,14 @@ pub fn plan_lent(
         (networkOf nodes (now (lanes .exit)) (now (closed .exit)))
         count
         (now (order .entry)) (now (order .exit))
+        dwell
         (now (table .entry)) (now (table .exit))
         (now (fields .entry)) (now (fields .exit))
         r ⌝ }
 {
     let mut records = made(fields);
     let n = within(count);
-    let answer = plan(nodes, lanes, closed, &mut records[..n], order, table);
+    let answer = plan(nodes, lanes, closed, &mut records[..n], order, dwell, table);
     told(records, fields);
     answer
 }
@@ -194,6 +196,7 @@ pub fn house_lent(
     closed: &[u16],
     count: usize,
     order: &[u16],
+    dwell: usize,
     carrier: Carrier,
     path: &mut [u16],
     fields: &mut [u32],
@@ -203,6 +206,7 @@ pub fn house_lent(
         (networkOf nodes (now (lanes .exit)) (now (closed .exit)))
         count
         (now (order .entry)) (now (order .exit))
+        dwell
         (carrier .0)
         (now (path .entry)) (now (path .exit))
         (now (fields .entry)) (now (fields .exit))
@@ -210,7 +214,16 @@ pub fn house_lent(
 {
     let records = made(fields);
     let n = within(count);
-    let answer = house(nodes, lanes, closed, &records[..n], order, carrier, path);
+    let answer = house(
+        nodes,
+        lanes,
+        closed,
+        &records[..n],
+        order,
+        dwell,
+        carrier,
+        path,
+    );
     told(records, fields);
     answer
 }
@@ -222,6 +235,7 @@ pub fn judge_lent(
     closed: &[u16],
     count: usize,
     order: &[u16],
+    dwell: usize,
     carrier: Carrier,
     list: &[u16],
     fields: &mut [u32],
@@ -231,6 +245,7 @@ pub fn judge_lent(
         (networkOf nodes (now (lanes .exit)) (now (closed .exit)))
         count
         (now (order .entry)) (now (order .exit))
+        dwell
         (carrier .0)
         (now (list .entry)) (now (list .exit))
         (now (fields .entry)) (now (fields .exit))
@@ -238,7 +253,16 @@ pub fn judge_lent(
 {
     let records = made(fields);
     let n = within(count);
-    let answer = judge(nodes, lanes, closed, &records[..n], order, carrier, list);
+    let answer = judge(
+        nodes,
+        lanes,
+        closed,
+        &records[..n],
+        order,
+        dwell,
+        carrier,
+        list,
+    );
     told(records, fields);
     answer
 }
@@ -250,6 +274,7 @@ pub fn write_lent(
     closed: &[u16],
     count: usize,
     order: &[u16],
+    dwell: usize,
     out: &mut [u8],
     fields: &mut [u32],
 ) -> Written
@@ -258,13 +283,14 @@ pub fn write_lent(
         (networkOf nodes (now (lanes .exit)) (now (closed .exit)))
         count
         (now (order .entry)) (now (order .exit))
+        dwell
         (now (out .entry)) (now (out .exit))
         (now (fields .entry)) (now (fields .exit))
         r ⌝ }
 {
     let records = made(fields);
     let n = within(count);
-    let answer = write_job(nodes, lanes, closed, &records[..n], order, out);
+    let answer = write_job(nodes, lanes, closed, &records[..n], order, dwell, out);
     told(records, fields);
     answer
 }

@@ -38,11 +38,13 @@ pub(crate) fn read(s: &[u8]) {
     print_shorts(b"order", &order);
 }
 
-// A question about the job that `job` holds: a network, and the moves and the order as lists. The lengths of
-// what is lent stand at the front of the payload.
+// A question about the job that `job` holds: a network, the moves and the order as lists, and the dwell. The
+// lengths of what is lent stand at the front of the payload.
 pub(crate) fn ask(kind: u8, s: &[u8], job: &[u8]) {
     let nodes = long_at(job, 0) as usize;
     let behind = behind_network(job);
+    let places = behind_list(behind);
+    let dwell = long_at(behind_list(places), 0) as usize;
     let mut lane_space = lane_room();
     let mut closed_space = lane_room();
     let mut move_space = [0u16; 200];
@@ -50,14 +52,22 @@ pub(crate) fn ask(kind: u8, s: &[u8], job: &[u8]) {
     let lanes = loaded_lanes(job, &mut lane_space);
     let closed = loaded_closed(job, &mut closed_space);
     let moves = loaded_list(behind, &mut move_space);
-    let order = loaded_list(behind_list(behind), &mut order_space);
+    let order = loaded_list(places, &mut order_space);
     match kind {
-        b't' => plan(s, nodes, lanes, closed, moves, order),
-        _ => written::from_numbers(s, nodes, lanes, closed, moves, order),
+        b't' => plan(s, nodes, lanes, closed, moves, order, dwell),
+        _ => written::from_numbers(s, nodes, lanes, closed, moves, order, dwell),
     }
 }
 
-fn plan(s: &[u8], nodes: usize, lanes: &[u16], closed: &[u16], moves: &[u16], order: &[u16]) {
+fn plan(
+    s: &[u8],
+    nodes: usize,
+    lanes: &[u16],
+    closed: &[u16],
+    moves: &[u16],
+    order: &[u16],
+    dwell: usize,
+) {
     let mut table = [7777u16; 12400];
     let mut distances = [7777u16; 100];
     let mut ticks = [7777u32; 100];
@@ -67,6 +77,7 @@ fn plan(s: &[u8], nodes: usize, lanes: &[u16], closed: &[u16], moves: &[u16], or
         closed,
         moves,
         order,
+        dwell,
         lend_shorts(&mut table, s, 0),
         lend_shorts(&mut distances, s, 2),
         lend_numbers(&mut ticks, s, 4),

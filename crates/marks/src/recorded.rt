@@ -5,6 +5,7 @@ use super::marked::lend_shorts;
 use super::marked::print_numbers;
 use super::marked::print_shorts;
 use super::written;
+use batch::payload::behind_list;
 use batch::payload::behind_network;
 use batch::payload::lane_room;
 use batch::payload::least;
@@ -70,6 +71,7 @@ pub(crate) fn ask(kind: u8, s: &[u8], job: &[u8]) {
     let records = behind_network(job);
     let count = least(short_at(records, 0) as usize, 80);
     let behind = rest(records, 2 + 10 * count);
+    let dwell = long_at(behind_list(behind), 0) as usize;
     let mut lane_space = lane_room();
     let mut closed_space = lane_room();
     let mut order_space = [0u16; 100];
@@ -79,10 +81,10 @@ pub(crate) fn ask(kind: u8, s: &[u8], job: &[u8]) {
     let closed = loaded_closed(job, &mut closed_space);
     let order = loaded_list(behind, &mut order_space);
     match kind {
-        b'p' => plan(s, nodes, lanes, closed, count, order, &mut fields),
-        b'o' => house(s, nodes, lanes, closed, count, order, &mut fields),
-        b'y' => written::from_records(s, nodes, lanes, closed, count, order, &mut fields),
-        _ => judge(s, nodes, lanes, closed, count, order, &mut fields),
+        b'p' => plan(s, nodes, lanes, closed, count, order, dwell, &mut fields),
+        b'o' => house(s, nodes, lanes, closed, count, order, dwell, &mut fields),
+        b'y' => written::from_records(s, nodes, lanes, closed, count, order, dwell, &mut fields),
+        _ => judge(s, nodes, lanes, closed, count, order, dwell, &mut fields),
     }
     print_records(&fields);
 }
@@ -94,6 +96,7 @@ fn plan(
     closed: &[u16],
     count: usize,
     order: &[u16],
+    dwell: usize,
     fields: &mut [u32; 320],
 ) {
     let mut table = [7777u16; 12400];
@@ -103,6 +106,7 @@ fn plan(
         closed,
         count,
         order,
+        dwell,
         lend_shorts(&mut table, s, 0),
         fields,
     ));
@@ -116,6 +120,7 @@ fn house(
     closed: &[u16],
     count: usize,
     order: &[u16],
+    dwell: usize,
     fields: &mut [u32; 320],
 ) {
     let mut path = [7777u16; 1100];
@@ -126,6 +131,7 @@ fn house(
         closed,
         count,
         order,
+        dwell,
         carrier,
         lend_shorts(&mut path, s, 0),
         fields,
@@ -140,10 +146,21 @@ fn judge(
     closed: &[u16],
     count: usize,
     order: &[u16],
+    dwell: usize,
     fields: &mut [u32; 320],
 ) {
     let carrier = Carrier(short_at(s, 0));
     let mut room = list_room();
     let list = loaded_list(rest(s, 2), &mut room);
-    print::judged(judge_lent(nodes, lanes, closed, count, order, carrier, list, fields));
+    print::judged(judge_lent(
+        nodes,
+        lanes,
+        closed,
+        count,
+        order,
+        dwell,
+        carrier,
+        list,
+        fields,
+    ));
 }

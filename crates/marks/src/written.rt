@@ -17,6 +17,7 @@ pub(crate) fn from_numbers(
     closed: &[u16],
     moves: &[u16],
     order: &[u16],
+    dwell: usize,
 ) {
     let mut out = marked_room();
     let answer = write_numbers(
@@ -25,6 +26,7 @@ pub(crate) fn from_numbers(
         closed,
         moves,
         order,
+        dwell,
         lend_bytes(&mut out, s, 0),
     );
     print_written(answer, &out);
@@ -37,6 +39,7 @@ pub(crate) fn from_records(
     closed: &[u16],
     count: usize,
     order: &[u16],
+    dwell: usize,
     fields: &mut [u32; 320],
 ) {
     let mut out = marked_room();
@@ -46,6 +49,7 @@ pub(crate) fn from_records(
         closed,
         count,
         order,
+        dwell,
         lend_bytes(&mut out, s, 0),
         fields,
     );

@@ -1,13 +1,13 @@
 -- Questions in other words. At a place below n, the checks of a stage are those that it has at each place
 -- below n: check by check. What never holds may be left out at a question's end, so the counts of a job
--- without carriers are those of its network. Assumes nothing.
+-- without carriers and dwell are those of its network. Assumes nothing.
 use mathlib.Core.Path.{_≡_, refl}
 use mathlib.Core.Logic.{_↔_}
 use mathlib.Core.List.{[], _∷_, _++_}
 use Prim.Native.Nat.{ℕ, _<_}
 use native.Mathlib.Omega.{arith}
 use Rattle.hall.specs.Stages.{Stage, Question, FirstOf, here, later, First, None, once, only-at, at-each}
-use Rattle.hall.specs.Questions.{nodesCount, lanesCount, closedCount, carriersCount, orderCount, counts}
+use Rattle.hall.specs.Questions.{nodesCount, lanesCount, closedCount, carriersCount, orderCount, dwellCount, counts}
 use Rattle.hall.proofs.Stages.{none-excludes}
 use Rattle.hall.proofs.Compose.{none-at-all, none-split, first-split}
 use Rattle.hall.proofs.Compose.{_⇒_, ⇒-append, ⇒-stage, alike-none, alike-check}
@@ -32,9 +32,9 @@ left-out a b none = record { firsts = λ f p h. cases (first-split a b h); nones
     cases (later n h) = absurd (none-excludes h none)
 
 pub counts-of-network : (nodes lane-numbers closed : ℕ) →
-    counts nodes lane-numbers closed 0 0
+    counts nodes lane-numbers closed 0 0 0
     ⇒ nodesCount nodes ∷ lanesCount lane-numbers ∷ closedCount closed ∷ []
 counts-of-network nodes lane-numbers closed =
     left-out (nodesCount nodes ∷ lanesCount lane-numbers ∷ closedCount closed ∷ [])
-    (carriersCount 0 ∷ orderCount 0 0 ∷ [])
-    (asked-clear (omega arith) (asked-clear (λ differ. differ refl) none-at-all))
+    (carriersCount 0 ∷ orderCount 0 0 ∷ dwellCount 0 ∷ [])
+    (asked-clear (omega arith) (asked-clear (λ differ. differ refl) (asked-clear (omega arith) none-at-all)))

@@ -21,10 +21,10 @@ use Rattle.hall.proofs.Answers.{answers-unique}
 abbrev pub OneAnswer : Question → Type 0
 OneAnswer q = (c d : Checked) → Judged q c → Judged q d → c ≡ d
 
-pub check-counts-unique : (nodes lane-numbers closed carriers order : ℕ) →
-    OneAnswer (counts nodes lane-numbers closed carriers order)
-check-counts-unique nodes lane-numbers closed carriers order =
-    judged-unique (counts nodes lane-numbers closed carriers order)
+pub check-counts-unique : (nodes lane-numbers closed carriers order dwell : ℕ) →
+    OneAnswer (counts nodes lane-numbers closed carriers order dwell)
+check-counts-unique nodes lane-numbers closed carriers order dwell =
+    judged-unique (counts nodes lane-numbers closed carriers order dwell)
 
 pub check-lane-unique : (nodes : ℕ) (lanes : List ℕ) (k : ℕ) → OneAnswer (only-at k (eachLane nodes lanes))
 check-lane-unique nodes lanes k = judged-unique (only-at k (eachLane nodes lanes))

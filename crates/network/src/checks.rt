@@ -1,9 +1,9 @@
 // The listed checks from numbers (rule 8.22): 2, 3, 12, then 4, 5 and 13 of each move, then 7; those of lanes
 // are in lanes.rt and those of closed nodes in closed.rt. Each function answers the first fault of its
 // stages, with its place, or that there is none. Lists of any length may be put. A lane and a move take two
-// numbers each, a closed node and an order place one, and the counts come from the lists' lengths. An odd
-// last number of a lane list is a fault of its count; an odd last number of a move list is no move and is
-// ignored, since records come whole.
+// numbers each, a closed node and an order place one, and their counts come from the lists' lengths; the node
+// count and the dwell are numbers of their own. An odd last number of a lane list is a fault of its count; an
+// odd last number of a move list is no move and is ignored, since records come whole.
 //
 // The checks of one entry stand by themselves, so that a reader can ask them of what it has stored. An entry
 // that is not there has no fault.
@@ -36,16 +36,17 @@ pub(crate) fn refused(fault: Fault, place: usize) -> Checked
     Checked::Refused(Refusal { fault, place })
 }
 
-// 2: the counts of nodes, lanes, closed nodes, carriers and order places. The lanes' is the length of their
-// list, which has two numbers a lane.
+// 2: the counts of nodes, lanes, closed nodes, carriers and order places, and the dwell. The lanes' is the
+// length of their list, which has two numbers a lane.
 pub fn check_counts(
     nodes: usize,
     lane_numbers: usize,
     closed: usize,
     carriers: usize,
     order: usize,
+    dwell: usize,
 ) -> Checked
-    ensures { λ r. ⌜ Judged (counts nodes «lane_numbers» closed carriers order) r ⌝ }
+    ensures { λ r. ⌜ Judged (counts nodes «lane_numbers» closed carriers order dwell) r ⌝ }
 {
     let largest = Job::largest();
     if nodes < 1 {
@@ -68,6 +69,9 @@ pub fn check_counts(
     }
     if order != carriers {
         return refused(Fault::BadCount, 3);
+    }
+    if dwell > largest.dwell {
+        return refused(Fault::BadCount, 5);
     }
     Checked::Sound
 }
@@ -187,7 +191,7 @@ pub fn check_network(nodes: usize, lanes: &[u16], closed: &[u16]) -> Checked
         (networkQuestion (networkOf nodes (now (lanes .entry)) (now (closed .entry))))
         r ⌝ }
 {
-    let counted = check_counts(nodes, lanes.len(), closed.len(), 0, 0);
+    let counted = check_counts(nodes, lanes.len(), closed.len(), 0, 0, 0);
     if let Checked::Refused(_) = counted {
         return counted;
     }
@@ -198,25 +202,34 @@ pub fn check_network(nodes: usize, lanes: &[u16], closed: &[u16]) -> Checked
     check_closed(nodes, closed)
 }
 
-// A whole job: its counts (2), its lanes (3), its closed nodes (12), its moves one after the other (4, 5 and
-// 13), its order (7).
+// A whole job: its counts and its dwell (2), its lanes (3), its closed nodes (12), its moves one after the
+// other (4, 5 and 13), its order (7).
 pub fn check_job(
     nodes: usize,
     lanes: &[u16],
     closed: &[u16],
     moves: &[u16],
     order: &[u16],
+    dwell: usize,
 ) -> Checked
     ensures { λ r. ⌜ Judged
         (checksQuestion
         (jobOf
         (networkOf nodes (now (lanes .entry)) (now (closed .entry)))
         (now (moves .entry))
-        (now (order .entry))))
+        (now (order .entry))
+        dwell))
         r ⌝ }
 {
     let carriers = moves.len() / 2;
-    let counted = check_counts(nodes, lanes.len(), closed.len(), carriers, order.len());
+    let counted = check_counts(
+        nodes,
+        lanes.len(),
+        closed.len(),
+        carriers,
+        order.len(),
+        dwell,
+    );
     if let Checked::Refused(_) = counted {
         return counted;
     }

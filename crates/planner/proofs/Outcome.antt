@@ -47,13 +47,13 @@ unmarked-walk (no-walk e none) h n = h e
 unmarked-walk {r = r} (distance small d) h n = n r (d .walk)
 
 -- what is served has its start ticks
-pub is-given : {table order ticks ticks′ : List ℕ} {r : timing-type.Timed} {cost : ℕ} → r ≡ timed.Cost cost →
-    Timing table order ticks ticks′ (saidTimed r) → Given table order ticks ticks′ cost
+pub is-given : {table order ticks ticks′ : List ℕ} {dwell : ℕ} {r : timing-type.Timed} {cost : ℕ} → r ≡ timed.Cost cost →
+    Timing table order dwell ticks ticks′ (saidTimed r) → Given table order dwell ticks ticks′ cost
 is-given e a = rw e at a
 
-pub never-unserved : (table order ticks ticks′ : List ℕ) {r : timing-type.Timed} →
-    timing.TicksServed table order (length ticks) → r ≡ timed.Unserved → Timing table order ticks ticks′ (saidTimed r) → ⊥
-never-unserved table order ticks ticks′ s e a = let u : TicksUntouched table order ticks ticks′ = rw e at a in u .unserved s
+pub never-unserved : (table order : List ℕ) (dwell : ℕ) (ticks ticks′ : List ℕ) {r : timing-type.Timed} →
+    timing.TicksServed table order dwell (length ticks) → r ≡ timed.Unserved → Timing table order dwell ticks ticks′ (saidTimed r) → ⊥
+never-unserved table order dwell ticks ticks′ s e a = let u : TicksUntouched table order dwell ticks ticks′ = rw e at a in u .unserved s
 
 module _ (j : Numbers) (sound : None (checksQuestion j)) where
   pub filling-served : {room : ℕ} → tableLength ≤ room → filling.TableServed (j .network) (j .moves) room
@@ -95,7 +95,7 @@ module _ (j : Numbers) (sound : None (checksQuestion j)) where
 
       -- ---- the plan
 
-      pub is-served : timing.TicksServed table′ (j .order) (length (l .ticks))
+      pub is-served : timing.TicksServed table′ (j .order) (j .dwell) (length (l .ticks))
       is-served = job-served j sound filled-whole (c .enough-ticks)
 
       all-reached : NoneLost table′ (carriers j) → (i : ℕ) → i < carriers j → own (tablesIn table′) i ≢ noWalkMark
@@ -113,7 +113,7 @@ module _ (j : Numbers) (sound : None (checksQuestion j)) where
       }
 
       pub plan-accepted : {r : Reach} {cost : ℕ} {distances′ ticks′ : List ℕ} → r ≡ All →
-          Reaching table′ (carriers j) (saidReach r) → TimedAll table′ (j .order) (l .distances) distances′ (l .ticks) ticks′ cost →
+          Reaching table′ (carriers j) (saidReach r) → TimedAll table′ (j .order) (j .dwell) (l .distances) distances′ (l .ticks) ticks′ cost →
           NumbersPlanned j l (lent table′ distances′ ticks′) cost
       plan-accepted {r} {cost} {distances′} {ticks′} told looking t = record {
         no-fault = none-first j l (cleared-roomy c) sound (λ q h. unmarked-walk (own-is q h) (reached q h));

@@ -95,19 +95,25 @@ fn copy_own(table: &[u16], carriers: usize, distances: &mut [u16])
 }
 
 // The carriers' distances and start ticks by a table, and the cost.
-fn time_all(table: &[u16], order: &[u16], distances: &mut [u16], ticks: &mut [u32]) -> u32
+fn time_all(
+    table: &[u16],
+    order: &[u16],
+    dwell: usize,
+    distances: &mut [u16],
+    ticks: &mut [u32],
+) -> u32
     requires { ⌜
-        TicksServed (now table) (now order) (length (now ticks))
+        TicksServed (now table) (now order) dwell (length (now ticks))
         × (carrierLimit ≤ length (now distances)) ⌝ }
     ensures { λ r. ⌜ TimedAll
-        (now (table .entry)) (now (order .entry))
+        (now (table .entry)) (now (order .entry)) dwell
         (now (distances .entry)) (now (distances .exit))
         (now (ticks .entry)) (now (ticks .exit))
         r ⌝ }
 {
     let carriers = order.len();
     copy_own(table, carriers, distances);
-    let timed = start_ticks(table, order, ticks);
+    let timed = start_ticks(table, order, dwell, ticks);
     match timed {
         Timed::Cost(cost) => cost,
         // What is served has a cost: no call comes here.
@@ -122,6 +128,7 @@ fn plan_sound(
     closed: &[u16],
     moves: &[u16],
     order: &[u16],
+    dwell: usize,
     table: &mut [u16],
     distances: &mut [u16],
     ticks: &mut [u32],
@@ -129,10 +136,10 @@ fn plan_sound(
     requires { ⌜
         Cleared (lent (now table) (now distances) (now ticks))
         × None (checksQuestion
-        (jobOf (networkOf nodes (now lanes) (now closed)) (now moves) (now order))) ⌝ }
+        (jobOf (networkOf nodes (now lanes) (now closed)) (now moves) (now order) dwell)) ⌝ }
     ensures { λ r. ⌜ Planning
         (jobOf (networkOf nodes (now (lanes .entry)) (now (closed .entry)))
-        (now (moves .entry)) (now (order .entry)))
+        (now (moves .entry)) (now (order .entry)) dwell)
         (lent (now (table .entry)) (now (distances .entry)) (now (ticks .entry)))
         (lent (now (table .exit)) (now (distances .exit)) (now (ticks .exit)))
         (saidPlanned r) ⌝ }
@@ -145,7 +152,7 @@ fn plan_sound(
             refused(Fault::Unreachable, carrier.0 as usize)
         }
         Reach::All => {
-            let cost = time_all(table, order, distances, ticks);
+            let cost = time_all(table, order, dwell, distances, ticks);
             Planned::Cost(cost)
         }
     }
@@ -158,6 +165,7 @@ fn plan_cleared(
     closed: &[u16],
     moves: &[u16],
     order: &[u16],
+    dwell: usize,
     table: &mut [u16],
     distances: &mut [u16],
     ticks: &mut [u32],
@@ -165,16 +173,26 @@ fn plan_cleared(
     requires { ⌜ Cleared (lent (now table) (now distances) (now ticks)) ⌝ }
     ensures { λ r. ⌜ Planning
         (jobOf (networkOf nodes (now (lanes .entry)) (now (closed .entry)))
-        (now (moves .entry)) (now (order .entry)))
+        (now (moves .entry)) (now (order .entry)) dwell)
         (lent (now (table .entry)) (now (distances .entry)) (now (ticks .entry)))
         (lent (now (table .exit)) (now (distances .exit)) (now (ticks .exit)))
         (saidPlanned r) ⌝ }
 {
-    let judged = check_job(nodes, lanes, closed, moves, order);
+    let judged = check_job(nodes, lanes, closed, moves, order, dwell);
     if let Checked::Refused(refusal) = judged {
         return Planned::Refused(refusal);
     }
-    plan_sound(nodes, lanes, closed, moves, order, table, distances, ticks)
+    plan_sound(
+        nodes,
+        lanes,
+        closed,
+        moves,
+        order,
+        dwell,
+        table,
+        distances,
+        ticks,
+    )
 }
 
 // The plan of a job: its table, its carriers' distances and start ticks, and its cost; or the first refusal.
@@ -185,13 +203,14 @@ pub fn plan_moves(
     closed: &[u16],
     moves: &[u16],
     order: &[u16],
+    dwell: usize,
     table: &mut [u16],
     distances: &mut [u16],
     ticks: &mut [u32],
 ) -> Planned
     ensures { λ r. ⌜ Planning
         (jobOf (networkOf nodes (now (lanes .entry)) (now (closed .entry)))
-        (now (moves .entry)) (now (order .entry)))
+        (now (moves .entry)) (now (order .entry)) dwell)
         (lent (now (table .entry)) (now (distances .entry)) (now (ticks .entry)))
         (lent (now (table .exit)) (now (distances .exit)) (now (ticks .exit)))
         (saidPlanned r) ⌝ }
@@ -202,5 +221,15 @@ pub fn plan_moves(
     zero_first(table, Job::TABLE);
     zero_first(distances, Job::CARRIERS);
     zero_ticks(ticks);
-    plan_cleared(nodes, lanes, closed, moves, order, table, distances, ticks)
+    plan_cleared(
+        nodes,
+        lanes,
+        closed,
+        moves,
+        order,
+        dwell,
+        table,
+        distances,
+        ticks,
+    )
 }

@@ -1,12 +1,12 @@
 -- The promise of `read_numbers` in both directions: whatever fits it is refused with a number at a line
 -- exactly when there is that reason, and accepted exactly when the text writes a job, as that job. And the
--- first 47,133 bytes of a text have the same answer and leave the same tables (rule 7.7), since no accepted
+-- first 47,143 bytes of a text have the same answer and leave the same tables (rule 7.7), since no accepted
 -- text is that long. Assumes nothing.
 --     refused-exactly     refused with this number at this line, exactly when
 --     refused-by-form     with long enough tables: exactly when the form refuses the text so
 --     accepted-exactly    accepted, exactly when tables are long enough and the text writes a job
---     accepted-as         then with the job's counts, and the tables are filled with its numbers
---     first-bytes         what fits the first 47,133 bytes of a text fits the text, and the other way round
+--     accepted-as         then with the job's counts and dwell, and the tables are filled with its numbers
+--     first-bytes         what fits the first 47,143 bytes of a text fits the text, and the other way round
 --     first-bytes-read    they have the same answer and leave the same tables
 use mathlib.Core.Path.{_≡_, _∙_, ap}
 use mathlib.Core.Logic.{_↔_}
@@ -22,7 +22,7 @@ use Rattle.hall.specs.Left.{filled}
 use Rattle.form.specs.Texts.{Refused}
 use Rattle.form.specs.JobText.{jobText}
 use Rattle.form.specs.Jobs.{WrittenJob}
-use Rattle.form.proofs.JobTexts.{job-unique, first-47133}
+use Rattle.form.proofs.JobTexts.{job-unique, first-47143}
 use Rattle.reader.specs.declared.Read.{Read}
 use Rattle.reader.specs.Reading.{saidRead, countsOf, AnyShort, ReadInto}
 use Rattle.reader.specs.Reading.{Reason, short, faulty}
@@ -36,16 +36,16 @@ by-form text n line long (faulty h r) = r
 
 -- the first bytes of a text give the same reasons
 pub first-bytes-reason : {Short : Type 0} (text : List ℕ) (n line : ℕ)
-    → Reason Short (take 47133 text) n line ↔ Reason Short text n line
+    → Reason Short (take 47143 text) n line ↔ Reason Short text n line
 first-bytes-reason {Short} text n line = (onward, back)
   where
-    onward : Reason Short (take 47133 text) n line → Reason Short text n line
+    onward : Reason Short (take 47143 text) n line → Reason Short text n line
     onward (short h a b) = short h a b
-    onward (faulty h r) = faulty h (first-47133 text (refused n line) .0 r)
+    onward (faulty h r) = faulty h (first-47143 text (refused n line) .0 r)
 
-    back : Reason Short text n line → Reason Short (take 47133 text) n line
+    back : Reason Short text n line → Reason Short (take 47143 text) n line
     back (short h a b) = short h a b
-    back (faulty h r) = faulty h (first-47133 text (refused n line) .1 r)
+    back (faulty h r) = faulty h (first-47143 text (refused n line) .1 r)
 
 module _ (text lanes closed moves order l c m o : List ℕ) where
   pub refused-exactly : (s : Said Job) → ReadInto text lanes closed moves order l c m o s → (n line : ℕ)
@@ -105,12 +105,12 @@ module _ (text lanes closed moves order l c m o : List ℕ) where
 
 module _ (text lanes closed moves order l c m o : List ℕ) where
   pub first-bytes : (s : Said Job)
-      → ReadInto (take 47133 text) lanes closed moves order l c m o s ↔ ReadInto text lanes closed moves order l c m o s
+      → ReadInto (take 47143 text) lanes closed moves order l c m o s ↔ ReadInto text lanes closed moves order l c m o s
   first-bytes (accepted counts) = (
     λ x. record {
       long = x .long;
       job = x .job;
-      writes = first-47133 text (accepted (x .job)) .0 (x .writes);
+      writes = first-47143 text (accepted (x .job)) .0 (x .writes);
       is-counts = x .is-counts;
       lanes-left = x .lanes-left;
       closed-left = x .closed-left;
@@ -120,7 +120,7 @@ module _ (text lanes closed moves order l c m o : List ℕ) where
     λ x. record {
       long = x .long;
       job = x .job;
-      writes = first-47133 text (accepted (x .job)) .1 (x .writes);
+      writes = first-47143 text (accepted (x .job)) .1 (x .writes);
       is-counts = x .is-counts;
       lanes-left = x .lanes-left;
       closed-left = x .closed-left;
@@ -146,7 +146,7 @@ module _ (text lanes closed moves order l c m o : List ℕ) where
   )
 
   pub first-bytes-read : (r r′ : Read) (l′ c′ m′ o′ : List ℕ)
-      → ReadInto (take 47133 text) lanes closed moves order l c m o (saidRead r)
+      → ReadInto (take 47143 text) lanes closed moves order l c m o (saidRead r)
       → ReadInto text lanes closed moves order l′ c′ m′ o′ (saidRead r′)
       → (r ≡ r′) × (l ≡ l′) × (c ≡ c′) × (m ≡ m′) × (o ≡ o′)
   first-bytes-read r r′ l′ c′ m′ o′ x y =

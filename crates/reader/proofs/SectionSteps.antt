@@ -19,13 +19,13 @@ use lib.ListN.{length, drop, length-drop, drop-of-length-le}
 use Rattle.hall.specs.declared.Fault.the-variants.{Malformed, BadCount}
 use Rattle.hall.specs.declared.Job.{Job}
 use Rattle.hall.specs.declared.Refusal.{Refusal}
-use Rattle.hall.specs.Limits.{nodeLimit, laneLimit, carrierLimit}
+use Rattle.hall.specs.Limits.{nodeLimit, laneLimit, carrierLimit, dwellLimit}
 use Rattle.form.specs.Lines.{Counted}
 use Rattle.form.specs.Sections.{place, Section, Form, Content, CountFits, due}
 use Rattle.form.specs.Contents.{Picks, first}
 use Rattle.form.specs.Stands.{within, behind}
 use Rattle.form.specs.JobText.{nodesSection, lanesSection, closedSection, carriersSection}
-use Rattle.form.specs.JobText.{orderSection, jobText}
+use Rattle.form.specs.JobText.{orderSection, dwellSection, jobText}
 use Rattle.form.specs.Reached.{Reached}
 use Rattle.form.proofs.Reached.{past-count, count-refused, at-end}
 use Rattle.form.proofs.Tables.{collected-start}
@@ -112,6 +112,9 @@ closed-limited read n = (λ h. h, λ h. h)
 
 pub carriers-limited : (read : List Content) → Limited carriersSection read 0 carrierLimit
 carriers-limited read n = (λ h. h, λ h. h)
+
+pub dwell-limited : (read : List Content) → Limited dwellSection read 1 dwellLimit
+dwell-limited read n = (λ h. h, λ h. h)
 
 -- the order's count is the carriers'
 pub order-limited : (job : Job) (read : List Content) → Asks place job [] read

@@ -5,7 +5,7 @@
 --     accepted-kinds     so it is of the text of a job
 use mathlib.Core.Path.{_≡_, sym, _∙_, subst}
 use mathlib.Core.List.{List, [], _∷_, _++_}
-use Prim.Native.Nat.{ℕ}
+use Prim.Native.Nat.{ℕ, zero, suc}
 use native.Mathlib.Omega.{arith}
 use Rattle.hall.specs.Job.{Numbers}
 use Rattle.put.specs.Digits.{digits}
@@ -13,13 +13,13 @@ use Rattle.put.proofs.Digits.{AllDigits, digits-each}
 use Rattle.form.specs.Lines.{further, entryLine, countLine, entryLines}
 use Rattle.form.specs.Sections.{Content}
 use Rattle.form.specs.Contents.{written}
-use Rattle.form.specs.Jobs.{pairs, singles, closedContents, contentsOf, WrittenJob}
+use Rattle.form.specs.Jobs.{pairs, singles, closedContents, dwellContents, contentsOf, WrittenJob}
 use Rattle.cursor.specs.declared.bytes.Kind.{Kind}
 use Rattle.cursor.specs.declared.bytes.Kind.the-variants.{Digit, Space, LineFeed, Capital, Other}
 use Rattle.cursor.specs.Bytes.{kindOf, Capitals}
 use Rattle.cursor.proofs.ByteKinds.{kind-digit, kind-space, kind-line-feed, kind-capital}
 use Rattle.reader.proofs.Words.{nodes-capitals, lanes-capitals, closed-capitals, carriers-capitals}
-use Rattle.reader.proofs.Words.{order-capitals}
+use Rattle.reader.proofs.Words.{order-capitals, dwell-capitals}
 
 abbrev pub Known : List ℕ → Type 0
 Known [] = Unit
@@ -94,6 +94,11 @@ unfolding written
 closed-known [] rest k = k
 closed-known (v ∷ l) rest k = section-known _ _ (singles (v ∷ l)) _ closed-capitals k
 
+dwell-known : (w : ℕ) → Known (written (dwellContents w))
+unfolding written
+dwell-known zero = tt
+dwell-known (suc w) = section-known _ _ [] [] dwell-capitals tt
+
 job-known : (j : Numbers) → Known (written (contentsOf j))
 unfolding written
 job-known j =
@@ -101,7 +106,7 @@ job-known j =
     (section-known _ _ (pairs (j .network .lanes)) _ lanes-capitals
     (closed-known (j .network .closed) _
     (section-known _ _ (pairs (j .moves)) _ carriers-capitals
-    (section-known _ _ (singles (j .order)) [] order-capitals tt))))
+    (section-known _ _ (singles (j .order)) _ order-capitals (dwell-known (j .dwell))))))
 
 pub accepted-kinds : (t : List ℕ) (j : Numbers) → WrittenJob t j → Known t
 accepted-kinds t j w = subst Known (sym (w .writes)) (job-known j)

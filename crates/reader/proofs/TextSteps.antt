@@ -1,11 +1,11 @@
 -- The sections one after the other: each step leads from what holds behind the section before
--- (TextStands.antt) to what holds behind its own; or the text is refused, and stays so. At the end the
--- sections are the job that the text writes. A section that is added to the form is one more such step.
--- Assumes nothing.
+-- (TextStands.antt) to what holds behind its own; or the text is refused, and stays so. A section that is
+-- added to the form is one more such step. The last of them, that of the dwell, and the end are in
+-- TextEnd.antt. Assumes nothing.
+--     nothing          the closed nodes that the checks of most sections look at: none
 --     nodes-ready ..   the section may be read
 --     after-nodes ..   it was read, or is missing
 --     closed-within    the closed nodes that were read are no more than their table has room for
---     text-answer      the answer at the end
 use mathlib.Core.Path.{_≡_, refl, sym, _∙_, ap, subst}
 use mathlib.Core.List.{List, [], _∷_, _++_, append-assoc}
 use Prim.Native.Nat.{ℕ, _*_, _≤_}
@@ -13,27 +13,22 @@ use native.Mathlib.Omega.{arith}
 use lib.ListN.{length, take}
 use Rattle.hall.specs.declared.Job.{Job}
 use Rattle.hall.specs.Limits.{nodeLimit, carrierLimit, laneNumbers, moveNumbers}
-use Rattle.hall.specs.Floor.{networkOf}
-use Rattle.hall.specs.Job.{jobOf}
 use Rattle.form.specs.Sections.{Content, content, numbersIn}
 use Rattle.form.specs.Words.{NODES, LANES, CARRIERS, ORDER}
 use Rattle.form.specs.JobText as form
-use Rattle.form.proofs.JobTexts.{closedRead, closed-stands, fiveSections, job-read}
-use Rattle.form.proofs.JobTexts.{lanes-counted, closed-counted, carriers-counted}
+use Rattle.form.proofs.JobSections.{closedRead, closed-stands}
 use Rattle.reader.specs.declared.lines.State.{State}
 use Rattle.reader.specs.declared.lines.Progress.{Progress}
-use Rattle.reader.specs.declared.Read.{Read}
 use Rattle.reader.specs.Sections.{Stood, Ready, closedIn}
 use Rattle.reader.specs.Sections.{putNodes, putLanes, putClosed, putCarriers, putNone}
-use Rattle.reader.specs.Sections.{SectionRead, SectionMissing, SectionStep, EndAnswer, EndStep}
-use Rattle.reader.specs.Text.{TextAnswer}
+use Rattle.reader.specs.Sections.{SectionRead, SectionMissing, SectionStep}
 use Rattle.reader.proofs.AfterSection.{stood-behind, few-counted, numbers-laid, stood-past, not-missing}
 use Rattle.reader.proofs.AfterSection.{After, ready-after, step-after}
+use Rattle.reader.proofs.TextStands.{behindClosed, behindOrder}
 use Rattle.reader.proofs.TextStands.{StartAt, NodesAt, LanesAt, ClosedAt, CarriersAt, OrderAt}
 use Rattle.reader.proofs.TextStands.{start-reads, nodes-reads, lanes-reads, closed-reads, carriers-reads}
 
--- these sections look at no closed nodes
-abbrev nothing : Progress → List ℕ
+abbrev pub nothing : Progress → List ℕ
 nothing p = []
 
 module _ (text : List ℕ) where
@@ -87,8 +82,7 @@ module _ (text : List ℕ) where
       -- where it stands, its count is that of its entries
       closed-stood : (st to : State) (x : ReadLanes st) → nodeLimit ≤ length closed′
           → SectionRead text (content NODES (x .n) (x .none) ∷ content LANES (x .m) (x .ls) ∷ [])
-          form.closedSection (form.carriersSection ∷ form.orderSection ∷ []) putClosed (st .job) (to .job)
-          closed closed′ (to .next)
+          form.closedSection behindClosed putClosed (st .job) (to .job) closed closed′ (to .next)
           → ReadClosed to
       closed-stood st to x long y =
           let es = y .collected .es in
@@ -102,12 +96,17 @@ module _ (text : List ℕ) where
             cs = es;
             stood =
                 subst
-                (λ (c : List Content). Stood text (before ++ c) (form.carriersSection ∷ form.orderSection ∷ [])
-                (to .next))
+                (λ (c : List Content). Stood text (before ++ c) behindClosed (to .next))
                 (closed-stands (y .count) es counted (y .fits .0))
                 (stood-behind y);
             counts = y .counts ∙ ap (putClosed (y .count)) (x .counts)
-                ∙ (λ i. record { nodes = x .n; lanes = x .m; closed = sym counted i; carriers = 0 });
+                ∙ (λ i. record {
+                  nodes = x .n;
+                  lanes = x .m;
+                  closed = sym counted i;
+                  carriers = 0;
+                  dwell = 0;
+                });
             lanes-laid = x .lanes-laid;
             closed-laid = numbers-laid y nodeLimit (let few = few-counted y in omega arith) long;
             closed-first =
@@ -211,8 +210,8 @@ module _ (text : List ℕ) where
                 stood =
                     subst
                     (λ (c : List Content).
-                    Stood text (content NODES (x .n) (x .none) ∷ content LANES (x .m) (x .ls) ∷ c) []
-                    (to .next))
+                    Stood text (content NODES (x .n) (x .none) ∷ content LANES (x .m) (x .ls) ∷ c)
+                    behindOrder (to .next))
                     (append-assoc (closedRead (x .cs)) (content CARRIERS (x .k) (x .ms) ∷ [])
                     (content ORDER (y .count) (y .collected .es) ∷ []))
                     (stood-behind y);
@@ -223,48 +222,3 @@ module _ (text : List ℕ) where
                 order-laid = numbers-laid y carrierLimit (let few = few-counted y in omega arith) long;
               })
               (λ st to x y. absurd (not-missing y refl))
-
-          -- ---- the answer
-
-          pub text-answer : (p : Progress) (r : Read) → After text ReadOrder p → EndStep text p r
-              → TextAnswer text lanes closed moves order lanes′ closed′ moves′ order′ r
-          text-answer (Progress.Refused q) r x e =
-              subst (TextAnswer text lanes closed moves order lanes′ closed′ moves′ order′) (sym e) (x .holds)
-          text-answer (Progress.On st) r x e =
-              answer r (x .holds) (e (sections-of (x .holds)) (x .holds .stood))
-            where
-              sections-of : ReadOrder st → List Content
-              sections-of x =
-                  fiveSections (x .n) (x .m) (x .k) (x .p) (x .none) (x .ls) (x .cs) (x .ms) (x .os)
-
-              answer : (r : Read) (x : ReadOrder st) → EndAnswer text (sections-of x) (st .job) r
-                  → TextAnswer text lanes closed moves order lanes′ closed′ moves′ order′ r
-              answer (Read.Refused q) x a = a
-              answer (Read.Job j) x a =
-                  let form = a .1 in
-                  let n = x .n in
-                  let m = x .m in
-                  let k = x .k in
-                  let p = x .p in
-                  let ls = x .ls in
-                  let cs = x .cs in
-                  let ms = x .ms in
-                  let os = x .os in
-                  let lanes-same = lanes-counted text n m k p (x .none) ls cs ms os form in
-                  let closed-same = closed-counted text n m k p (x .none) ls cs ms os form in
-                  let carriers-same = carriers-counted text n m k p (x .none) ls cs ms os form in
-                  record {
-                    job = jobOf (networkOf n (numbersIn ls) (numbersIn cs)) (numbersIn ms) (numbersIn os);
-                    writes = job-read text n m k p (x .none) ls cs ms os form;
-                    is-counts = a .0 ∙ x .counts
-                        ∙ (λ i. record {
-                          nodes = n;
-                          lanes = lanes-same i;
-                          closed = closed-same i;
-                          carriers = carriers-same i;
-                        });
-                    lanes-laid = x .lanes-laid;
-                    closed-laid = x .closed-laid;
-                    moves-laid = x .moves-laid;
-                    order-laid = x .order-laid;
-                  }

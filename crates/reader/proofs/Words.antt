@@ -1,7 +1,7 @@
 -- The letters of the sections' words are capital letters, as `count` requires. Each by its bytes. Assumes
 -- nothing.
 use native.Mathlib.Omega.{arith}
-use Rattle.form.specs.Words.{NODES, LANES, CLOSED, CARRIERS, ORDER}
+use Rattle.form.specs.Words.{NODES, LANES, CLOSED, CARRIERS, ORDER, DWELL}
 use Rattle.cursor.specs.Bytes.{Capitals}
 
 pub nodes-capitals : Capitals NODES
@@ -23,3 +23,7 @@ carriers-capitals = omega arith
 pub order-capitals : Capitals ORDER
 unfolding ORDER
 order-capitals = omega arith
+
+pub dwell-capitals : Capitals DWELL
+unfolding DWELL
+dwell-capitals = omega arith

@@ -1,15 +1,18 @@
--- What reading a job text answers, and what it leaves in the lent tables (rules 7.6 to 7.13, 7.17, 8.9, 8.21,
--- 8.29 and 9.1 to 9.6). When a text is accepted as which job, and refused with which number at which line, is
--- said in crate form, of written lines alone. The moves are the starts and goals of the carriers by turns.
---     saidRead       what an answer of reading says: the counts of an accepted text, or a refusal's listed
---                    number with its line
+-- What reading a job text answers, and what it leaves in the lent tables (rules 7.6 to 7.13, 7.17, 7.18, 8.9,
+-- 8.21, 8.29 and 9.1 to 9.6). When a text is accepted as which job, and refused with which number at which
+-- line, is said in crate form, of written lines alone. The moves are the starts and goals of the carriers by
+-- turns.
+--     saidRead       what an answer of reading says: the counts of an accepted text and its dwell, or a
+--                    refusal's listed number with its line
 --     TooShort       9: a lent table has fewer places than its least length, by the tables' lengths;
 --                    `AnyShort` by the tables
---     countsOf       the counts of a job: nodes, lanes, closed nodes and carriers (rules 7.13 and 7.17)
---     numbersRead    the job that the counts of an answer cut out of the tables: the numbers that a caller
---                    hands on to planning or to writing
+--     countsOf       the counts of a job: nodes, lanes, closed nodes and carriers; and its dwell (rules 7.13,
+--                    7.17 and 7.18)
+--     numbersRead    the job that the counts of an answer cut out of the tables, with the dwell answered: the
+--                    numbers that a caller hands on to planning or to writing
 --     AcceptedAs     no table is too short, the text is the written form of a job without faults, these are
---                    its counts, and the tables are filled with its numbers (rules 7.13 and 9.5)
+--                    its counts and its dwell, and the tables are filled with its numbers (rules 7.13 and
+--                    9.5)
 --     Reason         why a reading is refused: 9 at line 0 where a lent table is too short, before anything
 --                    is read; otherwise with the number and at the line with which the form refuses the text
 --                    (rules 8.21 and 8.29). `Short` says of the tables that are lent that one is too short
@@ -48,6 +51,7 @@ countsOf j = record {
   lanes = laneCount (j .network .lanes);
   closed = length (j .network .closed);
   carriers = carriers j;
+  dwell = j .dwell;
 }
 
 abbrev pub numbersRead : (counts : Job) (lanes′ closed′ moves′ order′ : List ℕ) → Numbers
@@ -55,6 +59,7 @@ numbersRead counts lanes′ closed′ moves′ order′ =
     jobOf (networkOf (counts .nodes) (take (2 * counts .lanes) lanes′) (take (counts .closed) closed′))
     (take (2 * counts .carriers) moves′)
     (take (counts .carriers) order′)
+    (counts .dwell)
 
 abbrev pub AnyShort : (lanes closed moves order : List ℕ) → Type 0
 AnyShort lanes closed moves order = TooShort (length lanes) (length closed) (length moves) (length order)

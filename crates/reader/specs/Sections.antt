@@ -1,6 +1,6 @@
--- What the steps of a reading answer, one a section (rules 7.1, 7.8 to 7.13 and 7.17). A step says what it
--- does behind any sections read, with its own section the first of those left; so a section more changes no
--- other step.
+-- What the steps of a reading answer, one a section (rules 7.1, 7.8 to 7.13, 7.17 and 7.18). A step says
+-- what it does behind any sections read, with its own section the first of those left; so a section more
+-- changes no other step.
 --     Skips          of the sections `more`, `left` are left once those before them are passed over: each of
 --                    these may be missing, and no line of its count stands at the front of `rest`
 --     Stood          the form leads to where the cursor stands, behind the sections read, all of them whole,
@@ -11,8 +11,8 @@
 --     CountRead      the line of a word and a count: its count fits and the form leads behind it, or the text
 --                    is refused, with 1 or with 2
 --     Ready          a step may be taken: its section is the next one, and what it asks for is read
---     putNodes, putLanes, putClosed, putCarriers    the counts with that of a section put in; `putNone` with
---                    none
+--     putNodes, putLanes, putClosed, putCarriers, putDwell    the counts with that of a section put in;
+--                    `putNone` with none
 --     SectionRead    a section was read: its count and its entries follow the form, the counts have its
 --                    count, the table its numbers, and further places of the table are as they were
 --     SectionMissing a section that may be missing is: no line of its count stands here, and nothing changes
@@ -96,19 +96,53 @@ Ready text closed s (Progress.Refused r) = Unit
 
 abbrev pub putNodes : (count : ℕ) → Job → Job
 putNodes n job =
-    record { nodes = n; lanes = job .lanes; closed = job .closed; carriers = job .carriers }
+    record {
+      nodes = n;
+      lanes = job .lanes;
+      closed = job .closed;
+      carriers = job .carriers;
+      dwell = job .dwell;
+    }
 
 abbrev pub putLanes : (count : ℕ) → Job → Job
 putLanes n job =
-    record { nodes = job .nodes; lanes = n; closed = job .closed; carriers = job .carriers }
+    record {
+      nodes = job .nodes;
+      lanes = n;
+      closed = job .closed;
+      carriers = job .carriers;
+      dwell = job .dwell;
+    }
 
 abbrev pub putClosed : (count : ℕ) → Job → Job
 putClosed n job =
-    record { nodes = job .nodes; lanes = job .lanes; closed = n; carriers = job .carriers }
+    record {
+      nodes = job .nodes;
+      lanes = job .lanes;
+      closed = n;
+      carriers = job .carriers;
+      dwell = job .dwell;
+    }
 
 abbrev pub putCarriers : (count : ℕ) → Job → Job
 putCarriers n job =
-    record { nodes = job .nodes; lanes = job .lanes; closed = job .closed; carriers = n }
+    record {
+      nodes = job .nodes;
+      lanes = job .lanes;
+      closed = job .closed;
+      carriers = n;
+      dwell = job .dwell;
+    }
+
+abbrev pub putDwell : (count : ℕ) → Job → Job
+putDwell n job =
+    record {
+      nodes = job .nodes;
+      lanes = job .lanes;
+      closed = job .closed;
+      carriers = job .carriers;
+      dwell = n;
+    }
 
 abbrev pub putNone : (count : ℕ) → Job → Job
 putNone n job = job

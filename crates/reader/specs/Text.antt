@@ -3,7 +3,8 @@
 --     Long        no table is shorter than its least length
 --     LaidIn      numbers stand in front of a table, no more than its least length, and what was behind them
 --                 stands there still
---     TextAs      the text writes a job: these are its counts, and its numbers are laid into the tables
+--     TextAs      the text writes a job: these are its counts and its dwell, and its numbers are laid into
+--                 the tables
 --     TextRead    what is answered: such a job, or a refusal. From the least lengths on nothing has changed
 use mathlib.Core.Path.{_≡_}
 use mathlib.Core.List.{List, _++_}

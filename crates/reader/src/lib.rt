@@ -9,6 +9,7 @@ use crate::sections::at_end;
 use crate::sections::carriers_section;
 use crate::sections::closed_count;
 use crate::sections::closed_section;
+use crate::sections::dwell_section;
 use crate::sections::lanes_section;
 use crate::sections::nodes_section;
 use crate::sections::order_section;
@@ -27,11 +28,11 @@ ghost use Rattle.reader.specs.Text.{Long, TextRead};
 pub mod lines;
 pub mod sections;
 
-// So many bytes of a text have the answer of the whole (rule 7.7): one more than an accepted text can have
-// (`first-bytes-read` in proofs/Exactly.antt).
+// So many bytes of a text have the answer of the whole (rule 7.7; `first-bytes-read` in proofs/Exactly.antt):
+// one more than the least output of writing, which every accepted text fits into.
 pub const FIRST_BYTES: usize = Job::TEXT_BYTES + 1;
 
-// The counts of an accepted job, or the refusal with its line.
+// The counts of an accepted job and its dwell, or the refusal with its line.
 pub enum Read {
     Job(Job),
     Refused(Refusal),
@@ -101,11 +102,12 @@ fn read_text(
     let shut = closed_count(closed_read);
     let carriers_read = carriers_section(text, closed_read, &closed[..shut], moves);
     let order_read = order_section(text, carriers_read, order);
-    at_end(text, order_read)
+    let dwell_read = dwell_section(text, order_read);
+    at_end(text, dwell_read)
 }
 
 // Reads a job text. The lanes' numbers go to `lanes`, the closed nodes to `closed`, the starts and goals of
-// the carriers by turns to `moves`, and the order to `order`.
+// the carriers by turns to `moves`, and the order to `order`; the counts and the dwell are answered.
 pub fn read_numbers(
     text: &[u8],
     lanes: &mut [u16],

@@ -37,7 +37,7 @@ pub enum Passed {
     Refused(Refusal),
 }
 
-// How far the text is read: the counts so far, and where the next line begins.
+// How far the text is read: the counts so far, the dwell among them, and where the next line begins.
 pub struct State {
     pub job: Job,
     pub next: Cursor,

@@ -1,7 +1,7 @@
-// The sections of a job text, one step each (rules 7.1, 7.8 to 7.13 and 7.17): a step takes what was read so
-// far, puts its section's count and its entries to it, and passes a refusal through. The section of the
-// closed nodes may be missing: then its step changes nothing. A section that is added to the form needs one
-// more step here. The last step asks for the end of the text.
+// The sections of a job text, one step each (rules 7.1, 7.8 to 7.13, 7.17 and 7.18): a step takes what was
+// read so far, puts its section's count and its entries to it, and passes a refusal through. The sections of
+// the closed nodes and of the dwell may be missing: then their steps change nothing. A section that is added
+// to the form needs one more step here. The last step asks for the end of the text.
 use crate::Read;
 use crate::lines::CountLine;
 use crate::lines::Entries;
@@ -19,9 +19,9 @@ ghost use Prim.Native.Nat.{_≤_};
 ghost use lib.ListN.{length};
 ghost use Rattle.hall.specs.Limits.{nodeLimit, carrierLimit, laneNumbers, moveNumbers};
 ghost use Rattle.form.specs.JobText.{nodesSection, lanesSection, closedSection, carriersSection};
-ghost use Rattle.form.specs.JobText.{orderSection};
-ghost use Rattle.reader.specs.Sections.{Ready, putNodes, putLanes, putClosed, putCarriers, putNone};
-ghost use Rattle.reader.specs.Sections.{SectionStep, closedIn, EndStep};
+ghost use Rattle.form.specs.JobText.{orderSection, dwellSection};
+ghost use Rattle.reader.specs.Sections.{putNodes, putLanes, putClosed, putCarriers, putNone, putDwell};
+ghost use Rattle.reader.specs.Sections.{Ready, SectionStep, closedIn, EndStep};
 
 // `NODES n`: its count.
 pub(crate) fn nodes_section(text: &[u8], progress: Progress) -> Progress
@@ -168,6 +168,31 @@ pub(crate) fn order_section(text: &[u8], progress: Progress, table: &mut [u16]) 
             match count_line(text, here, b"ORDER", job.carriers, job.carriers) {
                 CountLine::Count(count, next) => {
                     entry_lines(text, next, Entries::Places, job, &[], count, table)
+                }
+                CountLine::Refused(r) => Progress::Refused(r),
+            }
+        }
+        Progress::Refused(r) => Progress::Refused(r),
+    }
+}
+
+// `DWELL w`: its count. Where no such line stands the section is missing: the cursor stays, and the end of
+// the text is asked for there.
+pub(crate) fn dwell_section(text: &[u8], progress: Progress) -> Progress
+    requires { ⌜ Ready (now text) [] dwellSection progress ⌝ }
+    ensures { λ r. ⌜ SectionStep (now (text .entry)) [] dwellSection putDwell 0 [] [] progress r ⌝ }
+{
+    match progress {
+        Progress::On(state) => {
+            let here = state.next;
+            if !count_stands(text, here, b"DWELL") {
+                return progress;
+            }
+            match count_line(text, here, b"DWELL", 1, Job::DWELL) {
+                CountLine::Count(count, next) => {
+                    let mut job = state.job;
+                    job.dwell = count;
+                    Progress::On(State { job, next })
                 }
                 CountLine::Refused(r) => Progress::Refused(r),
             }

@@ -6,7 +6,7 @@
 --     answer-text-unique    two texts that are answers to a text are equal
 --     answer-unique         two outcomes of `answer` are equal
 --     answer-of-front       the answer to the first n bytes of a text is the answer to the text, if n is
---                           47,100 or more
+--                           47,111 or more
 use mathlib.Core.Path.{_≡_, sym, _∙_, ap, subst}
 use mathlib.Core.List.{List}
 use Prim.Native.Nat.{ℕ, _≤_}
@@ -67,14 +67,14 @@ answer-unique (Answering.nothing short u) (Answering.nothing short′ v) = untou
 
 -- ---- a long input
 
-front-text : (n : ℕ) (text : List ℕ) → 47100 ≤ n →
+front-text : (n : ℕ) (text : List ℕ) → 47111 ≤ n →
     {printed : List ℕ} → AnswerText (take n text) printed → AnswerText text printed
 front-text n text h (AnswerText.refused {number = m} {line = l} x e) =
     AnswerText.refused (front-job n h text (refused m l) .0 x) e
 front-text n text h (AnswerText.accepted {j = j} w t) =
     AnswerText.accepted (front-job n h text (accepted j) .0 w) t
 
-pub answer-of-front : (n : ℕ) (text : List ℕ) → 47100 ≤ n → {out out′ : List ℕ} {r : ℕ} →
+pub answer-of-front : (n : ℕ) (text : List ℕ) → 47111 ≤ n → {out out′ : List ℕ} {r : ℕ} →
     Answering (AnswerText (take n text)) out out′ r → Answering (AnswerText text) out out′ r
 answer-of-front n text h (Answering.whole long t p) = Answering.whole long (front-text n text h t) p
 answer-of-front n text h (Answering.nothing short u) = Answering.nothing short u

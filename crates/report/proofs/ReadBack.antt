@@ -3,7 +3,7 @@
 -- checks; a refusal is the text's. The tables that are lent are long enough, so 9 is not given. The lists
 -- of a job are as long as its counts say, and so they are the first numbers of the filled tables (hall's
 -- `filled-front`). Assumes nothing.
---     jobInFront        the job whose numbers stand in front of the tables, by its counts
+--     jobInFront        the job whose numbers stand in front of the tables, by its counts, with the dwell
 --     ReadBack          the text is the written form of that job, and its counts are within the limits
 --     job-back          counts that reading answers are those of a job that was read
 --     refusal-back      a refusal that reading answers is the text's
@@ -38,6 +38,7 @@ jobInFront counts lanes closed moves order =
     jobOf (networkOf (counts .nodes) (take (2 * counts .lanes) lanes) (take (counts .closed) closed))
     (take (2 * counts .carriers) moves)
     (take (counts .carriers) order)
+    (counts .dwell)
 
 pub record ReadBack (text lanes closed moves order : List ℕ) (counts : Job) : Type 0 where
   pub writes : WrittenJob text (jobInFront counts lanes closed moves order)
@@ -65,7 +66,7 @@ module _ {text lanes closed moves order l s m o : List ℕ} where
       let em = in-front (2 * countsOf j .carriers) moveNumbers moves (a .moves-left) (w .paired) in
       let eo = in-front (countsOf j .carriers) carrierLimit order (a .order-left) no in
       ap (λ (c : Job). jobInFront c l s m o) is
-      ∙ λ i. jobOf (networkOf (j .network .nodes) (el i) (es i)) (em i) (eo i)
+      ∙ λ i. jobOf (networkOf (j .network .nodes) (el i) (es i)) (em i) (eo i) (j .dwell)
 
   accepted-back : {counts : Job} → AcceptedAs text lanes closed moves order l s m o counts → ReadBack text l s m o counts
   accepted-back {counts} a =

@@ -42,13 +42,14 @@ fn answer_job(
     closed: &[u16],
     moves: &[u16],
     order: &[u16],
+    dwell: usize,
     out: &mut [u8],
 ) -> usize
     requires { ⌜ None (checksQuestion
-        (jobOf (networkOf nodes (now lanes) (now closed)) (now moves) (now order))) ⌝ }
+        (jobOf (networkOf nodes (now lanes) (now closed)) (now moves) (now order) dwell)) ⌝ }
     ensures { λ r. ⌜ Answering
         (JobAnswer (jobOf (networkOf nodes (now (lanes .entry)) (now (closed .entry)))
-        (now (moves .entry)) (now (order .entry))))
+        (now (moves .entry)) (now (order .entry)) dwell))
         (now (out .entry)) (now (out .exit))
         r ⌝ }
 {
@@ -63,6 +64,7 @@ fn answer_job(
         closed,
         moves,
         order,
+        dwell,
         &mut table,
         &mut distances,
         &mut ticks,
@@ -96,6 +98,7 @@ pub fn answer(text: &[u8], out: &mut [u8]) -> usize
             let numbers = 2 * counts.lanes;
             let shut = counts.closed;
             let places = counts.carriers;
+            let dwell = counts.dwell;
             let ends = 2 * places;
             answer_job(
                 nodes,
@@ -103,6 +106,7 @@ pub fn answer(text: &[u8], out: &mut [u8]) -> usize
                 &closed[..shut],
                 &moves[..ends],
                 &order[..places],
+                dwell,
                 out,
             )
         }

@@ -20,18 +20,18 @@ pub held-pair-is : (held : List ℕ) (p : ℕ) (q : Pair)
 unfolding heldPair
 held-pair-is held p q e₁ e₂ e₃ e₄ e₅ e₆ = rw (e₁, e₂, e₃, e₄, e₅, e₆)
 
-module _ (n : ℕ) (pair pair′ : ℕ → Pair) (tick tick′ : ℕ → ℕ)
+module _ (w n : ℕ) (pair pair′ : ℕ → Pair) (tick tick′ : ℕ → ℕ)
     (same-pair : (p : ℕ) → p < n → pair p ≡ pair′ p) (same-tick : (p : ℕ) → p < n → tick p ≡ tick′ p) where
-  pub permitted-same : (x : ℕ) → PermittedBy n pair tick x → PermittedBy n pair′ tick′ x
+  pub permitted-same : (x : ℕ) → PermittedBy w n pair tick x → PermittedBy w n pair′ tick′ x
   unfolding PermittedBy
   permitted-same x all p l = rw (same-pair p l, same-tick p l) at (all p l)
 
-  permitted-back : (x : ℕ) → PermittedBy n pair′ tick′ x → PermittedBy n pair tick x
+  permitted-back : (x : ℕ) → PermittedBy w n pair′ tick′ x → PermittedBy w n pair tick x
   unfolding PermittedBy
   permitted-back x all p l = rw (same-pair p l, same-tick p l) (all p l)
 
   pub smallest-same : {from x : ℕ}
-      → SmallestFrom from (PermittedBy n pair tick) x → SmallestFrom from (PermittedBy n pair′ tick′) x
+      → SmallestFrom from (PermittedBy w n pair tick) x → SmallestFrom from (PermittedBy w n pair′ tick′) x
   smallest-same {x = x} s = record {
     not-before = s .not-before;
     permitted = permitted-same x (s .permitted);

@@ -13,13 +13,13 @@ use Rattle.hall.proofs.Answers.{answers-unique}
 use Rattle.hall.proofs.Ticks.{smallest-unique}
 use Rattle.rule.specs.Held.{heldPair, heldTick}
 
-pub forbids-unique : (ss gg ii jj ij ji ti tj : ℕ) (r r′ : Bool)
-    → Answers r (Forbidden (pair6 ss gg ii jj ij ji) (pos tj -ℤ pos ti))
-    → Answers r′ (Forbidden (pair6 ss gg ii jj ij ji) (pos tj -ℤ pos ti)) → r ≡ r′
-forbids-unique ss gg ii jj ij ji ti tj =
-    answers-unique (Forbidden (pair6 ss gg ii jj ij ji) (pos tj -ℤ pos ti))
+pub forbids-unique : (ss gg ii jj ij ji w ti tj : ℕ) (r r′ : Bool)
+    → Answers r (Forbidden w (pair6 ss gg ii jj ij ji) (pos tj -ℤ pos ti))
+    → Answers r′ (Forbidden w (pair6 ss gg ii jj ij ji) (pos tj -ℤ pos ti)) → r ≡ r′
+forbids-unique ss gg ii jj ij ji w ti tj =
+    answers-unique (Forbidden w (pair6 ss gg ii jj ij ji) (pos tj -ℤ pos ti))
 
-pub first-tick-unique : (held : List ℕ) (from : ℕ) {x x′ : ℕ}
-    → SmallestFrom from (PermittedBy (length held / 7) (heldPair held) (heldTick held)) x
-    → SmallestFrom from (PermittedBy (length held / 7) (heldPair held) (heldTick held)) x′ → x ≡ x′
-first-tick-unique held from s s′ = smallest-unique s s′
+pub first-tick-unique : (held : List ℕ) (w from : ℕ) {x x′ : ℕ}
+    → SmallestFrom from (PermittedBy w (length held / 7) (heldPair held) (heldTick held)) x
+    → SmallestFrom from (PermittedBy w (length held / 7) (heldPair held) (heldTick held)) x′ → x ≡ x′
+first-tick-unique held w from s s′ = smallest-unique s s′

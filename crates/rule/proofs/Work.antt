@@ -60,9 +60,9 @@ unfolding one
 one-limit (yes a) = le-refl 1
 one-limit (no a) = zero-le
 
-module _ (held : List ℕ) where
+module _ (w : ℕ) (held : List ℕ) where
   abbrev end : ℕ → ℕ
-  end p = stretchEnd (heldPair held p) (heldTick held p)
+  end p = stretchEnd w (heldPair held p) (heldTick held p)
 
   -- how many held carriers have a stretch that ends after a tick
   pub waiting : ℕ → ℕ
@@ -75,7 +75,7 @@ module _ (held : List ℕ) where
       let h = total-limit (length held / 7) after 1 (λ p l. one-limit (decLt t (end p))) in omega arith
 
   -- a pass that moves the tick leaves one more stretch behind
-  pub waiting-falls : (t x : ℕ) → t ≤ x → PassedOne held t x → waiting x < waiting t
+  pub waiting-falls : (t x : ℕ) → t ≤ x → PassedOne w held t x → waiting x < waiting t
   unfolding waiting
   waiting-falls t x h o =
       total-less (length held / 7) (λ p. one (decLt x (end p))) (λ p. one (decLt t (end p)))
@@ -85,8 +85,8 @@ module _ (held : List ℕ) where
     where
       after : o .tick < end (o .place)
       after =
-          end-after (heldPair held (o .place)) (heldTick held (o .place)) (o .tick) x
+          end-after w (heldPair held (o .place)) (heldTick held (o .place)) (o .tick) x
           (o .held-up) (o .free-on)
 
       by : end (o .place) ≤ x
-      by = end-by (heldPair held (o .place)) (heldTick held (o .place)) (o .tick) x (o .held-up) (o .free-on)
+      by = end-by w (heldPair held (o .place)) (heldTick held (o .place)) (o .tick) x (o .held-up) (o .free-on)

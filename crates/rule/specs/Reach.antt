@@ -2,12 +2,13 @@
 -- public promise cites them.
 --     TickReached        x is no earlier than a given tick, and no tick from that one up and before x is
 --                        permitted
---     PermittedByHeld    tick x is permitted by the first n held carriers
+--     PermittedByHeld    tick x is permitted by the first n held carriers, where carriers have the dwell w;
+--                        so for the dwell w in what follows
 --     PassedOne          between a given tick and x a held carrier was passed for good: it does not permit
 --                        some tick from the given one up, and permits every tick from x up
 --     Swept              x, from a given tick: TickReached against all held carriers; if it is that very
---                        tick, it is permitted by all, and if it is later, PassedOne; and it stays within
---                        what a start tick and a distance of 32 bits can make
+--                        tick, it is permitted by all, and if it is later, PassedOne; and it is at most one
+--                        past what a start tick, a distance and a dwell of 32 bits can make
 use mathlib.Core.Path.{_≡_}
 use mathlib.Core.List.{List}
 use Prim.Native.Nat.{ℕ, _/_, _≤_, _<_}
@@ -21,19 +22,19 @@ pub record TickReached (from : ℕ) (Permits : ℕ → Type 0) (x : ℕ) : Type 
   pub not-before : from ≤ x
   pub none-before : (y : ℕ) → from ≤ y → Permits y → x ≤ y
 
-abbrev pub PermittedByHeld : List ℕ → ℕ → ℕ → Type 0
-PermittedByHeld held n = PermittedBy n (heldPair held) (heldTick held)
+abbrev pub PermittedByHeld : (w : ℕ) → List ℕ → ℕ → ℕ → Type 0
+PermittedByHeld w held n = PermittedBy w n (heldPair held) (heldTick held)
 
-pub record PassedOne (held : List ℕ) (from x : ℕ) : Type 0 where
+pub record PassedOne (w : ℕ) (held : List ℕ) (from x : ℕ) : Type 0 where
   pub place : ℕ
   pub inside : place < length held / 7
   pub tick : ℕ
   pub not-before : from ≤ tick
-  pub held-up : ¬ Permitted (heldPair held place) (pos tick -ℤ pos (heldTick held place))
-  pub free-on : (y : ℕ) → x ≤ y → Permitted (heldPair held place) (pos y -ℤ pos (heldTick held place))
+  pub held-up : ¬ Permitted w (heldPair held place) (pos tick -ℤ pos (heldTick held place))
+  pub free-on : (y : ℕ) → x ≤ y → Permitted w (heldPair held place) (pos y -ℤ pos (heldTick held place))
 
-pub record Swept (held : List ℕ) (from x : ℕ) : Type 0 where
-  pub reached : TickReached from (PermittedByHeld held (length held / 7)) x
-  pub still : x ≡ from → PermittedByHeld held (length held / 7) from
-  pub passed : from < x → PassedOne held from x
-  pub within : x ≤ 8589934591
+pub record Swept (w : ℕ) (held : List ℕ) (from x : ℕ) : Type 0 where
+  pub reached : TickReached from (PermittedByHeld w held (length held / 7)) x
+  pub still : x ≡ from → PermittedByHeld w held (length held / 7) from
+  pub passed : from < x → PassedOne w held from x
+  pub within : x ≤ 12884901886

@@ -1,7 +1,8 @@
 // The pair rule (rules 4.1 to 4.9) on plain numbers, and the first tick that it leaves free (rules 5.2 and
 // 5.3). Nothing here refuses: every number of the types is served, and the sums are made in u64, where none
-// of them can overflow. 8,589,934,591 is the largest tick that comes up: one past the latest goal tick that a
-// start tick and a distance of 32 bits can make.
+// of them can overflow. 12,884,901,886 is the largest tick that comes up: one past the latest last tick that
+// a start tick, a distance and a dwell of 32 bits can make. The dwell is a number among the others: one
+// function serves every dwell, 0 too.
 //
 // Work of `first_tick` against k held carriers: a carrier moves the tick at most once, since it permits every
 // tick after the move. So at most k sweeps change the tick, one more changes nothing, and each makes k pair
@@ -19,16 +20,27 @@ ghost use Rattle.rule.specs.Reach.{Swept};
 
 // Whether the rule forbids that i starts at ti and j at tj, with additions only. All sums are made before the
 // tests; the mark for "no walk" between the starts is tested first, and then none of them decides (rule 4.5).
-fn forbidden(ss: u32, gg: u32, ii: u32, jj: u32, ij: u32, ji: u32, ti: u32, tj: u64) -> bool
-    requires { ⌜ tj ≤ 8589934591 ⌝ }
-    ensures { λ r. ⌜ Answers r (Forbidden (pair6 ss gg ii jj ij ji) (pos tj -ℤ pos ti)) ⌝ }
+// The exception is looked at without dwell only (rule 4.8).
+fn forbidden(
+    ss: u32,
+    gg: u32,
+    ii: u32,
+    jj: u32,
+    ij: u32,
+    ji: u32,
+    dwell: u32,
+    ti: u32,
+    tj: u64,
+) -> bool
+    requires { ⌜ tj ≤ 12884901886 ⌝ }
+    ensures { λ r. ⌜ Answers r (Forbidden dwell (pair6 ss gg ii jj ij ji) (pos tj -ℤ pos ti)) ⌝ }
 {
     let starts_goals = ss as u64 + gg as u64;
     let owns = ii as u64 + jj as u64;
     let low = ti as u64 + ij as u64;
-    let low_end = tj + jj as u64;
+    let low_end = tj + jj as u64 + dwell as u64;
     let high = tj + ji as u64;
-    let high_end = ti as u64 + ii as u64;
+    let high_end = ti as u64 + ii as u64 + dwell as u64;
     let parity = (ti as u64 + tj + ss as u64) % 2;
     if ss == Job::NO_WALK as u32 {
         return false;
@@ -41,6 +53,9 @@ fn forbidden(ss: u32, gg: u32, ii: u32, jj: u32, ij: u32, ji: u32, ti: u32, tj: 
     }
     if high > high_end {
         return false;
+    }
+    if dwell > 0 {
+        return true;
     }
     if starts_goals < owns {
         return true;
@@ -57,10 +72,20 @@ fn forbidden(ss: u32, gg: u32, ii: u32, jj: u32, ij: u32, ji: u32, ti: u32, tj: 
     true
 }
 
-// Whether the rule forbids that i starts at tick ti and j at tick tj, where the six numbers are the pair's
-// distances (rule 4.2).
-pub fn forbids(ss: u16, gg: u16, ii: u16, jj: u16, ij: u16, ji: u16, ti: u32, tj: u32) -> bool
-    ensures { λ r. ⌜ Answers r (Forbidden (pair6 ss gg ii jj ij ji) (pos tj -ℤ pos ti)) ⌝ }
+// Whether the rule forbids that i starts at tick ti and j at tick tj, where the first six numbers are the
+// pair's distances (rule 4.2) and carriers have that dwell.
+pub fn forbids(
+    ss: u16,
+    gg: u16,
+    ii: u16,
+    jj: u16,
+    ij: u16,
+    ji: u16,
+    dwell: u32,
+    ti: u32,
+    tj: u32,
+) -> bool
+    ensures { λ r. ⌜ Answers r (Forbidden dwell (pair6 ss gg ii jj ij ji) (pos tj -ℤ pos ti)) ⌝ }
 {
     forbidden(
         ss as u32,
@@ -69,26 +94,43 @@ pub fn forbids(ss: u16, gg: u16, ii: u16, jj: u16, ij: u16, ji: u16, ti: u32, tj
         jj as u32,
         ij as u32,
         ji as u32,
+        dwell,
         ti,
         tj as u64,
     )
 }
 
 // The smallest tick from a given one up that a single held carrier permits, in one jump past its stretch. The
-// stretch's last tick is free already where the exception holds there (rule 4.8).
-fn free_from(ss: u32, gg: u32, ii: u32, jj: u32, ij: u32, ji: u32, ti: u32, from: u64) -> u64
-    requires { ⌜ from ≤ 8589934591 ⌝ }
-    ensures { λ r. ⌜ SmallestFrom from (λ x. Permitted (pair6 ss gg ii jj ij ji) (pos x -ℤ pos ti)) r ⌝ }
+// stretch's upper end is free already where the exception holds there (rule 4.8).
+fn free_from(
+    ss: u32,
+    gg: u32,
+    ii: u32,
+    jj: u32,
+    ij: u32,
+    ji: u32,
+    dwell: u32,
+    ti: u32,
+    from: u64,
+) -> u64
+    requires { ⌜ from ≤ 12884901886 ⌝ }
+    ensures { λ r. ⌜ SmallestFrom
+        from
+        (λ x. Permitted dwell (pair6 ss gg ii jj ij ji) (pos x -ℤ pos ti))
+        r ⌝ }
 {
     let starts_goals = ss as u64 + gg as u64;
     let owns = ii as u64 + jj as u64;
-    let high_end = ti as u64 + ii as u64;
-    if !forbidden(ss, gg, ii, jj, ij, ji, ti, from) {
+    let high_end = ti as u64 + ii as u64 + dwell as u64;
+    if !forbidden(ss, gg, ii, jj, ij, ji, dwell, ti, from) {
         return from;
     }
     let last = high_end - ji as u64;
     let end_parity = (ti as u64 + last + ss as u64) % 2;
     let after = last + 1;
+    if dwell > 0 {
+        return after;
+    }
     if starts_goals < owns {
         return after;
     }
@@ -99,11 +141,12 @@ fn free_from(ss: u32, gg: u32, ii: u32, jj: u32, ij: u32, ji: u32, ti: u32, from
 }
 
 // The same for the carrier that is held at a place.
-fn free_at(held: &[u32], place: usize, from: u64) -> u64
-    requires { ⌜ (7 * place + 6 < length (now held)) × (from ≤ 8589934591) ⌝ }
+fn free_at(held: &[u32], dwell: u32, place: usize, from: u64) -> u64
+    requires { ⌜ (7 * place + 6 < length (now held)) × (from ≤ 12884901886) ⌝ }
     ensures { λ r. ⌜ SmallestFrom
         from
         (λ x. Permitted
+        dwell
         (heldPair (now (held .entry)) place)
         (pos x -ℤ pos (heldTick (now (held .entry)) place)))
         r ⌝ }
@@ -116,41 +159,42 @@ fn free_at(held: &[u32], place: usize, from: u64) -> u64
     let jj = held[at + 4];
     let ij = held[at + 5];
     let ji = held[at + 6];
-    free_from(ss, gg, ii, jj, ij, ji, ti, from)
+    free_from(ss, gg, ii, jj, ij, ji, dwell, ti, from)
 }
 
 // One pass over the held carriers: each moves the tick on to the first that it permits.
-fn sweep(held: &[u32], from: u64) -> u64
-    requires { ⌜ from ≤ 8589934591 ⌝ }
-    ensures { λ r. ⌜ Swept (now (held .entry)) from r ⌝ }
+fn sweep(held: &[u32], dwell: u32, from: u64) -> u64
+    requires { ⌜ from ≤ 12884901886 ⌝ }
+    ensures { λ r. ⌜ Swept dwell (now (held .entry)) from r ⌝ }
 {
     let count = held.len() / 7;
     let mut tick = from;
     let mut place = 0;
     while place < count {
-        tick = free_at(held, place, tick);
+        tick = free_at(held, dwell, place, tick);
         place += 1;
     }
     tick
 }
 
-// The smallest tick from a given one up that every held carrier permits. Seven numbers stand for each: its
-// start tick, then the six distances of the pair that it makes with the new carrier, as in `forbids`. What is
-// left over after the last seven is not read.
-pub fn first_tick(held: &[u32], from: u32) -> u64
+// The smallest tick from a given one up that every held carrier permits, where all have that dwell. Seven
+// numbers stand for each: its start tick, then the six distances of the pair that it makes with the new
+// carrier, as in `forbids`. What is left over after the last seven is not read.
+pub fn first_tick(held: &[u32], dwell: u32, from: u32) -> u64
     ensures { λ r. ⌜ SmallestFrom
         from
         (PermittedBy
+        dwell
         (length (now (held .entry)) / 7)
         (heldPair (now (held .entry)))
         (heldTick (now (held .entry))))
         r ⌝ }
 {
     let mut tick = from as u64;
-    let mut next = sweep(held, tick);
+    let mut next = sweep(held, dwell, tick);
     while tick < next {
         tick = next;
-        next = sweep(held, tick);
+        next = sweep(held, dwell, tick);
     }
     tick
 }

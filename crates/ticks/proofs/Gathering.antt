@@ -59,7 +59,7 @@ module _ (table order ticks held₀ : List ℕ) (q : ℕ) where
 -- ---- what a filled list permits
 
 -- `whole` is the list of which only the first 7 q numbers are lent
-module _ (table order ticks held₀ whole : List ℕ) (q : ℕ)
+module _ (w : ℕ) (table order ticks held₀ whole : List ℕ) (q : ℕ)
     (g : Gathered table order ticks held₀ whole q q) (fits : 7 * q ≤ length whole) where
   abbrev lent : List ℕ
   lent = take (7 * q) whole
@@ -77,11 +77,11 @@ module _ (table order ticks held₀ whole : List ℕ) (q : ℕ)
   lent-pair p h = pair-same lent whole p (lent-at p h) ∙ g .each p h .pair-is
 
   pub lent-smallest : {x : ℕ} →
-      SmallestFrom 0 (PermittedBy (length lent / 7) (heldPair lent) (heldTick lent)) x →
-      SmallestFrom 0 (PermittedAt (tablesIn table) order (λ i. getD ticks i 0) q) x
+      SmallestFrom 0 (PermittedBy w (length lent / 7) (heldPair lent) (heldTick lent)) x →
+      SmallestFrom 0 (PermittedAt w (tablesIn table) order (λ i. getD ticks i 0) q) x
   lent-smallest {x} s =
-      smallest-same q
+      smallest-same w q
       (heldPair lent) (λ p. pairOf (tablesIn table) (getD order p 0) (getD order q 0))
       (heldTick lent) (λ p. getD ticks (getD order p 0) 0)
       lent-pair lent-tick
-      (subst (λ (n : ℕ). SmallestFrom 0 (PermittedBy n (heldPair lent) (heldTick lent)) x) lent-count s)
+      (subst (λ (n : ℕ). SmallestFrom 0 (PermittedBy w n (heldPair lent) (heldTick lent)) x) lent-count s)

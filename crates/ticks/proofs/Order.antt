@@ -15,11 +15,11 @@ use Rattle.hall.specs.Refusals.{BadOrder-at, no-carrier, stands-earlier}
 use Rattle.hall.specs.Questions.{counts, eachLane, eachClosed, eachMove, orderChecks, eachOrderPlace, checksQuestion}
 use Rattle.hall.proofs.Compose.{none-split}
 use Rattle.hall.proofs.Places.{none-each}
-use Rattle.hall.proofs.Sound.{carriers-limit, order-length}
+use Rattle.hall.proofs.Sound.{carriers-limit, dwell-within, order-length}
 use Rattle.hall.proofs.Pigeon.{all-listed}
-use Rattle.ticks.specs.Timing.{TicksServed}
+use Rattle.ticks.specs.Timing.{OrderServed, TicksServed}
 
-module _ {table order : List ℕ} {room : ℕ} (s : TicksServed table order room) where
+module _ {table order : List ℕ} {room : ℕ} (s : OrderServed table order room) where
   entry-sound : (p : ℕ) → p < length order → ¬ BadOrder-at (length order) order p
   entry-sound p h = none-each (orderChecks (length order) order) (s .sound-order) .0 .clear p h .0
 
@@ -59,7 +59,7 @@ module _ (j : Numbers) (sound : None (checksQuestion j)) where
   order-sound =
       none-split
       (counts (j .network .nodes) (length (j .network .lanes)) (length (j .network .closed))
-      (carriers j) (length (j .order))
+      (carriers j) (length (j .order)) (j .dwell)
       ++ (eachLane (j .network .nodes) (j .network .lanes)
       ∷ eachClosed (j .network .nodes) (j .network .closed)
       ∷ eachMove (j .network .nodes) (j .network .closed) (j .moves)
@@ -67,11 +67,14 @@ module _ (j : Numbers) (sound : None (checksQuestion j)) where
       (eachOrderPlace (carriers j) (j .order) ∷ []) sound .1
 
   pub job-served : {table : List ℕ} {room : ℕ} →
-      tableLength ≤ length table → carrierLimit ≤ room → TicksServed table (j .order) room
+      tableLength ≤ length table → carrierLimit ≤ room → TicksServed table (j .order) (j .dwell) room
   job-served whole enough = record {
-    whole-table = whole;
-    few-places = omega (arith, order-length j sound, carriers-limit j sound);
-    sound-order =
-        subst (λ (n : ℕ). None (eachOrderPlace n (j .order) ∷ [])) (sym (order-length j sound)) order-sound;
-    enough-room = enough;
+    listed = record {
+      whole-table = whole;
+      few-places = omega (arith, order-length j sound, carriers-limit j sound);
+      sound-order =
+          subst (λ (n : ℕ). None (eachOrderPlace n (j .order) ∷ [])) (sym (order-length j sound)) order-sound;
+      enough-room = enough;
+    };
+    dwell-few = dwell-within j sound;
   }

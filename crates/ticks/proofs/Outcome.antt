@@ -16,27 +16,27 @@ use Rattle.ticks.specs.Timing.{TicksServed, Given, TicksUntouched}
 use Rattle.ticks.specs.Steps.{PlacedTo}
 use Rattle.ticks.proofs.Order.{entry-below}
 
-pub left-untouched : {table order ticks : List ℕ} →
-    ¬ TicksServed table order (length ticks) → TicksUntouched table order ticks ticks
+pub left-untouched : {table order ticks : List ℕ} {dwell : ℕ} →
+    ¬ TicksServed table order dwell (length ticks) → TicksUntouched table order dwell ticks ticks
 left-untouched n = record { unserved = n; kept = refl }
 
-pub placed-given : (table order ticks ticks′ : List ℕ) (cost : ℕ) →
-    TicksServed table order (length ticks) →
-    PlacedTo table order ticks ticks′ (length order) →
+pub placed-given : (table order : List ℕ) (dwell : ℕ) (ticks ticks′ : List ℕ) (cost : ℕ) →
+    TicksServed table order dwell (length ticks) →
+    PlacedTo dwell table order ticks ticks′ (length order) →
     cost ≡ costOf (tablesIn table) (λ i. getD ticks′ i 0) (length order) →
-    Given table order ticks ticks′ cost
-placed-given table order ticks ticks′ cost s placed e = record {
+    Given table order dwell ticks ticks′ cost
+placed-given table order dwell ticks ticks′ cost s placed e = record {
   served = s;
   start-ticks = record { smallest = placed .smallest };
   cost-is = e;
   as-many = placed .as-many;
-  others = λ i h. placed .others i (λ p l n. omega (arith, n, entry-below s p l));
+  others = λ i h. placed .others i (λ p l n. omega (arith, n, entry-below (s .listed) p l));
 }
 
 -- the start ticks and the cost of a job, given by its table of distances, are its plan
 pub given-plan : (j : Numbers) (table ticks ticks′ : List ℕ) (cost : ℕ) →
     carriers j ≡ length (j .order) →
-    Given table (j .order) ticks ticks′ cost →
+    Given table (j .order) (j .dwell) ticks ticks′ cost →
     TablesOf (floor (j .network)) (carriers j) (start j) (goal j) (tablesIn table) →
     ((i : ℕ) → i < carriers j → own (tablesIn table) i ≢ noWalkMark) →
     Plan j (tablesIn table) (λ i. getD ticks′ i 0) cost

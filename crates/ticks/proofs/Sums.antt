@@ -7,7 +7,7 @@ use native.Mathlib.Numerals.{add-one}
 use native.Mathlib.Omega.{arith}
 use lib.ListN.{length, getD}
 use Rattle.hall.specs.Ticks.{total}
-use Rattle.ticks.specs.Timing.{TicksServed}
+use Rattle.ticks.specs.Timing.{OrderServed}
 use Rattle.ticks.specs.Steps.{Early, EarlyAll}
 use Rattle.ticks.proofs.Order.{every-carrier}
 
@@ -20,9 +20,9 @@ unfolding total
 total-more k f = rw add-one
 
 pub all-early : {table order : List ℕ} {room : ℕ} →
-    TicksServed table order room → (ticks : List ℕ) →
+    OrderServed table order room → (ticks : List ℕ) →
     Early order ticks (length order) → EarlyAll ticks (length order)
 all-early s ticks e = record {
   by-number =
-      every-carrier s (λ i. getD ticks i 0 ≤ 4128768) (λ p h. omega (arith, e .by-place p h, s .few-places));
+      every-carrier s (λ i. getD ticks i 0 ≤ 4144833) (λ p h. omega (arith, e .by-place p h, s .few-places));
 }

@@ -17,12 +17,12 @@ use Rattle.ticks.specs.declared.Timed.the-variants.{Cost, Unserved}
 use Rattle.ticks.specs.Timing.{Given, saidTimed, Timing}
 use Rattle.ticks.proofs.Order.{entry-below, one-place}
 
-module _ (table order ticks : List ℕ) where
-  module _ (u v : List ℕ) (c d : ℕ) (a : Given table order ticks u c) (b : Given table order ticks v d) where
+module _ (table order : List ℕ) (dwell : ℕ) (ticks : List ℕ) where
+  module _ (u v : List ℕ) (c d : ℕ) (a : Given table order dwell ticks u c) (b : Given table order dwell ticks v d) where
     same-tick : (i : ℕ) → Dec (i < length order) → getD u i 0 ≡ getD v i 0
     same-tick i (yes l) =
-        ticks-unique-all (tablesIn table) order (λ j. getD u j 0) (λ j. getD v j 0)
-        (a .start-ticks) (b .start-ticks) (entry-below (a .served)) (one-place (a .served)) i l
+        ticks-unique-all dwell (tablesIn table) order (λ j. getD u j 0) (λ j. getD v j 0)
+        (a .start-ticks) (b .start-ticks) (entry-below (a .served .listed)) (one-place (a .served .listed)) i l
     same-tick i (no n) = a .others i (omega arith) ∙ sym (b .others i (omega arith))
 
     given-ticks-unique : u ≡ v
@@ -38,8 +38,8 @@ module _ (table order ticks : List ℕ) where
         ∙ sym (b .cost-is)
 
   pub timing-unique : (u v : List ℕ) (r r′ : Timed) →
-      Timing table order ticks u (saidTimed r) →
-      Timing table order ticks v (saidTimed r′) →
+      Timing table order dwell ticks u (saidTimed r) →
+      Timing table order dwell ticks v (saidTimed r′) →
       (r ≡ r′) × (u ≡ v)
   timing-unique u v (Cost c) (Cost d) a b =
       (ap Cost (given-cost-unique u v c d a b), given-ticks-unique u v c d a b)

@@ -4,12 +4,13 @@
 --     HeldAt         what is held at place p is the start tick of the carrier at place p of the order, and
 --                    its pair with the carrier at place q
 --     Gathered       so for the first n places
---     Early          the carrier at place p, before q, starts at tick 65,536 p at the latest, whatever the
---                    table holds: a number of 16 bits and one tick more for each carrier before it
---     EarlyAll       so every one of k carriers, at most 64 in number, starts at tick 65,536 × 63 at the
+--     Early          the carrier at place p, before q, starts at tick 65,791 p at the latest, whatever the
+--                    table holds: a number of 16 bits, the greatest dwell and one tick more for each carrier
+--                    before it
+--     EarlyAll       so every one of k carriers, at most 64 in number, starts at tick 65,791 × 63 at the
 --                    latest
 --     PlacedNext     the carrier at place q has got the smallest tick that the carriers placed before it
---                    permit, and nothing else changed
+--                    permit where all have the dwell w, and nothing else changed
 --     PlacedTo       the carriers at the places before q have their start ticks; all other numbers are as
 --                    they came
 use mathlib.Core.Path.{_≡_}
@@ -36,21 +37,21 @@ pub record Gathered (table order ticks held held′ : List ℕ) (q n : ℕ) : Ty
   pub each : (p : ℕ) → p < n → HeldAt table order ticks held′ q p
 
 pub record Early (order ticks : List ℕ) (q : ℕ) : Type 0 where
-  pub by-place : (p : ℕ) → p < q → getD ticks (getD order p 0) 0 ≤ 65536 * p
+  pub by-place : (p : ℕ) → p < q → getD ticks (getD order p 0) 0 ≤ 65791 * p
 
 pub record EarlyAll (ticks : List ℕ) (k : ℕ) : Type 0 where
-  pub by-number : (i : ℕ) → i < k → getD ticks i 0 ≤ 4128768
+  pub by-number : (i : ℕ) → i < k → getD ticks i 0 ≤ 4144833
 
-pub record PlacedNext (table order ticks ticks′ : List ℕ) (q : ℕ) : Type 0 where
+pub record PlacedNext (w : ℕ) (table order ticks ticks′ : List ℕ) (q : ℕ) : Type 0 where
   pub tick : ℕ
-  pub smallest : SmallestFrom 0 (PermittedAt (tablesIn table) order (λ i. getD ticks i 0) q) tick
-  pub early : tick ≤ 65536 * q
+  pub smallest : SmallestFrom 0 (PermittedAt w (tablesIn table) order (λ i. getD ticks i 0) q) tick
+  pub early : tick ≤ 65791 * q
   pub written : ticks′ ≡ set ticks (getD order q 0) tick
 
-pub record PlacedTo (table order ticks ticks′ : List ℕ) (q : ℕ) : Type 0 where
+pub record PlacedTo (w : ℕ) (table order ticks ticks′ : List ℕ) (q : ℕ) : Type 0 where
   pub as-many : length ticks′ ≡ length ticks
   pub smallest : (p : ℕ) → p < q →
-      SmallestFrom 0 (PermittedAt (tablesIn table) order (λ i. getD ticks′ i 0) p)
+      SmallestFrom 0 (PermittedAt w (tablesIn table) order (λ i. getD ticks′ i 0) p)
       (getD ticks′ (getD order p 0) 0)
   pub early : Early order ticks′ q
   pub others : (i : ℕ) → ((p : ℕ) → p < q → getD order p 0 ≢ i) → getD ticks′ i 0 ≡ getD ticks i 0

@@ -1,7 +1,7 @@
-// Start ticks and cost by a distance table (rule 9.8) and an order (rules 5.1 to 5.5). A network is not asked
-// for: the table may hold any numbers, as long as it has its least length. An input that is not served leaves
-// the ticks as they came. Places of the order and carrier numbers have a type each, since both go into one
-// function here and neither may be used for the other (rule 3.9).
+// Start ticks and cost by a distance table (rule 9.8), an order and a dwell (rules 5.1 to 5.5). A network is
+// not asked for: the table may hold any numbers, as long as it has its least length. An input that is not
+// served leaves the ticks as they came. Places of the order and carrier numbers have a type each, since both
+// go into one function here and neither may be used for the other (rule 3.9).
 //
 // Work for k carriers: the one at place q is tested against the q before it, q (q + 1) pair tests at most
 // (see crate rule), so less than k³ / 3 in all. That is 87,360 for 64 carriers at most, and far fewer where
@@ -10,11 +10,11 @@ ghost use mathlib.Core.Path.{_≡_};
 ghost use Prim.Native.Nat.{_+_, _*_, _≤_, _<_};
 ghost use lib.ListN.{length, getD};
 ghost use denote.Ref.{now};
-ghost use Rattle.hall.specs.Limits.{carrierLimit, tableLength};
+ghost use Rattle.hall.specs.Limits.{carrierLimit, dwellLimit, tableLength};
 ghost use Rattle.hall.specs.Rule.{pair6, Answers};
 ghost use Rattle.hall.specs.Ticks.{pairOf, costOf};
 ghost use Rattle.hall.specs.Plan.{tablesIn};
-ghost use Rattle.ticks.specs.Timing.{TicksServed, Timing, saidTimed};
+ghost use Rattle.ticks.specs.Timing.{OrderServed, TicksServed, Timing, saidTimed};
 ghost use Rattle.ticks.specs.Steps.{heldWith, Gathered, Early, EarlyAll, PlacedNext, PlacedTo};
 use hall::Carrier;
 use hall::Checked;
@@ -87,7 +87,7 @@ fn hold_pair(table: &[u16], i: Carrier, j: Carrier, tick: u32, held: &mut [u32],
 
 // The carriers placed before q, each with its pair with the carrier at place q.
 fn gather(table: &[u16], order: &[u16], ticks: &[u32], q: Place, held: &mut [u32])
-    requires { ⌜ TicksServed (now table) (now order) (length (now ticks))
+    requires { ⌜ OrderServed (now table) (now order) (length (now ticks))
         × (q .0 < length (now order))
         × (7 * (q .0) ≤ length (now held)) ⌝ }
     ensures { λ _. ⌜ Gathered
@@ -113,11 +113,13 @@ fn gather(table: &[u16], order: &[u16], ticks: &[u32], q: Place, held: &mut [u32
 
 // The carrier at place q gets the smallest tick that the carriers placed before it permit. The tick is
 // written at the carrier's number. Seven numbers for each carrier that a job can have are room enough.
-fn place_next(table: &[u16], order: &[u16], q: Place, ticks: &mut [u32])
-    requires { ⌜ TicksServed (now table) (now order) (length (now ticks))
+fn place_next(table: &[u16], order: &[u16], dwell: u32, q: Place, ticks: &mut [u32])
+    requires { ⌜ OrderServed (now table) (now order) (length (now ticks))
         × (q .0 < length (now order))
-        × Early (now order) (now ticks) (q .0) ⌝ }
+        × Early (now order) (now ticks) (q .0)
+        × (dwell ≤ dwellLimit) ⌝ }
     ensures { λ _. ⌜ PlacedNext
+        dwell
         (now (table .entry))
         (now (order .entry))
         (now (ticks .entry))
@@ -128,16 +130,17 @@ fn place_next(table: &[u16], order: &[u16], q: Place, ticks: &mut [u32])
     let mut held = [0u32; 448];
     gather(table, order, ticks, q, &mut held);
     let end = 7 * p;
-    let tick = first_tick(&held[..end], 0);
+    let tick = first_tick(&held[..end], dwell, 0);
     let new = q.carrier(order);
     let j = new.0 as usize;
     ticks[j] = tick as u32;
 }
 
 // Every carrier gets its start tick, in the order's turn.
-fn place_all(table: &[u16], order: &[u16], ticks: &mut [u32])
-    requires { ⌜ TicksServed (now table) (now order) (length (now ticks)) ⌝ }
+fn place_all(table: &[u16], order: &[u16], dwell: u32, ticks: &mut [u32])
+    requires { ⌜ OrderServed (now table) (now order) (length (now ticks)) × (dwell ≤ dwellLimit) ⌝ }
     ensures { λ _. ⌜ PlacedTo
+        dwell
         (now (table .entry))
         (now (order .entry))
         (now (ticks .entry))
@@ -147,7 +150,7 @@ fn place_all(table: &[u16], order: &[u16], ticks: &mut [u32])
     let count = order.len();
     let mut q: usize = 0;
     while q < count {
-        place_next(table, order, Place(q), ticks);
+        place_next(table, order, dwell, Place(q), ticks);
         q += 1;
     }
 }
@@ -172,9 +175,10 @@ fn cost(table: &[u16], k: usize, ticks: &[u32]) -> u32
 }
 
 // Whether the table has its three blocks, the order lists different carrier numbers below its length, no more
-// than a job can have, and there is room for a tick of each that a job can have.
-fn served(table: &[u16], order: &[u16], room: usize) -> bool
-    ensures { λ r. ⌜ Answers r (TicksServed (now (table .entry)) (now (order .entry)) room) ⌝ }
+// than a job can have, the dwell is one that a job can have, and there is room for a tick of each carrier
+// that a job can have.
+fn served(table: &[u16], order: &[u16], dwell: usize, room: usize) -> bool
+    ensures { λ r. ⌜ Answers r (TicksServed (now (table .entry)) (now (order .entry)) dwell room) ⌝ }
 {
     let count = order.len();
     if table.len() < Job::TABLE {
@@ -186,6 +190,9 @@ fn served(table: &[u16], order: &[u16], room: usize) -> bool
     if room < Job::CARRIERS {
         return false;
     }
+    if dwell > Job::DWELL {
+        return false;
+    }
     let judged = check_order(count, order);
     match judged {
         Checked::Sound => true,
@@ -194,20 +201,21 @@ fn served(table: &[u16], order: &[u16], room: usize) -> bool
 }
 
 // The start ticks by carrier number, and the cost. What is not served changes nothing.
-pub fn start_ticks(table: &[u16], order: &[u16], ticks: &mut [u32]) -> Timed
+pub fn start_ticks(table: &[u16], order: &[u16], dwell: usize, ticks: &mut [u32]) -> Timed
     ensures { λ r. ⌜ Timing
         (now (table .entry))
         (now (order .entry))
+        dwell
         (now (ticks .entry))
         (now (ticks .exit))
         (saidTimed r) ⌝ }
 {
     let room = ticks.len();
     let count = order.len();
-    if !served(table, order, room) {
+    if !served(table, order, dwell, room) {
         return Timed::Unserved;
     }
-    place_all(table, order, ticks);
+    place_all(table, order, dwell as u32, ticks);
     let sum = cost(table, count, ticks);
     Timed::Cost(sum)
 }

@@ -116,6 +116,7 @@ fn ask_job<'a>(
     spare: &'a [u16],
 ) {
     let nodes = job.nodes;
+    let dwell = job.dwell;
     let carrier = Carrier(short_at(s, 0));
     match kind {
         b'R' => {
@@ -133,13 +134,14 @@ fn ask_job<'a>(
                 closed,
                 moves,
                 order,
+                dwell,
                 carrier,
                 &mut path,
             ));
             rows(front(&path, length), length);
         }
-        b'Q' => print::judged(judge_for(nodes, lanes, closed, moves, order, carrier, own)),
-        b'W' => written::write_and_print(short_at(s, 2), nodes, lanes, closed, moves, order),
+        b'Q' => print::judged(judge_for(nodes, lanes, closed, moves, order, dwell, carrier, own)),
+        b'W' => written::write_and_print(short_at(s, 2), nodes, lanes, closed, moves, order, dwell),
         _ => ask_move(
             kind,
             nodes,

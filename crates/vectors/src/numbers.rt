@@ -28,7 +28,14 @@ fn print_times(distances: &[u16], ticks: &[u32]) {
     }
 }
 
-fn plan_and_print(nodes: usize, lanes: &[u16], closed: &[u16], moves: &[u16], order: &[u16]) {
+fn plan_and_print(
+    nodes: usize,
+    lanes: &[u16],
+    closed: &[u16],
+    moves: &[u16],
+    order: &[u16],
+    dwell: usize,
+) {
     let mut table = [0u16; Job::TABLE];
     let mut distances = [0u16; Job::CARRIERS];
     let mut ticks = [0u32; Job::CARRIERS];
@@ -38,6 +45,7 @@ fn plan_and_print(nodes: usize, lanes: &[u16], closed: &[u16], moves: &[u16], or
         closed,
         moves,
         order,
+        dwell,
         &mut table,
         &mut distances,
         &mut ticks,
@@ -62,6 +70,7 @@ pub(crate) fn job(s: &[u8]) {
         loaded_closed(s, &mut closed),
         loaded(rest(carriers, 4), move_count, &mut moves),
         loaded(rest(places, 4), place_count, &mut order),
+        long_at(places, 4 + 2 * place_count) as usize,
     );
 }
 

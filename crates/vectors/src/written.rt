@@ -34,9 +34,10 @@ pub(crate) fn write_and_print(
     closed: &[u16],
     moves: &[u16],
     order: &[u16],
+    dwell: usize,
 ) {
     let mut out = text_room();
-    let answer = write_often(further, nodes, lanes, closed, moves, order, &mut out);
+    let answer = write_often(further, nodes, lanes, closed, moves, order, dwell, &mut out);
     match answer {
         Written::Bytes(count) => print::word(opening(&out, count)),
         Written::Refused(r) => print::refused(r),
@@ -51,12 +52,13 @@ fn write_often(
     closed: &[u16],
     moves: &[u16],
     order: &[u16],
+    dwell: usize,
     out: &mut [u8],
 ) -> Written {
     let mut i: u16 = 0;
     while i < further {
-        write_numbers(nodes, lanes, closed, moves, order, out);
+        write_numbers(nodes, lanes, closed, moves, order, dwell, out);
         i += 1;
     }
-    write_numbers(nodes, lanes, closed, moves, order, out)
+    write_numbers(nodes, lanes, closed, moves, order, dwell, out)
 }

@@ -6,11 +6,12 @@
 --                                those of all, an odd last number left out
 --     no-singles, next-single    the same of single numbers
 --     closed-unwritten, closed-written    the section of the closed nodes: nothing, or its line and entries
+--     dwell-unwritten, dwell-written      the line of the dwell: nothing, or the line
 --     job-parts                  the text of a job by the lines of its sections
 use mathlib.Core.Path.{_≡_, refl, sym, _∙_, ap}
 use mathlib.Core.Logic.{_≢_}
 use mathlib.Core.List.{List, [], _∷_, _++_, append-assoc, append-nil}
-use Prim.Native.Nat.{ℕ, suc, _+_, _*_, _/_, _<_}
+use Prim.Native.Nat.{ℕ, zero, suc, _+_, _*_, _/_, _<_}
 use native.Mathlib.Numerals.{add-one}
 use native.Mathlib.Omega.{arith}
 use lib.ListN.{length, take, getD}
@@ -19,9 +20,9 @@ use Rattle.hall.specs.Floor.{laneCount}
 use Rattle.hall.specs.Job.{Numbers, carriers}
 use Rattle.put.specs.Digits.{digits, field}
 use Rattle.form.specs.Lines.{further, entryLine, countLine, entryLines}
-use Rattle.form.specs.Words.{NODES, LANES, CLOSED, CARRIERS, ORDER}
+use Rattle.form.specs.Words.{NODES, LANES, CLOSED, CARRIERS, ORDER, DWELL}
 use Rattle.form.specs.Contents.{written}
-use Rattle.form.specs.Jobs.{pairs, singles, closedContents, textOf}
+use Rattle.form.specs.Jobs.{pairs, singles, closedContents, dwellContents, textOf}
 use Rattle.form.proofs.Steps.{entries-append, written-append}
 use Rattle.form.proofs.Rows.{pairs-next, pairs-whole, singles-next}
 
@@ -85,6 +86,16 @@ unfolding written
 closed-written [] h = absurd (h refl)
 closed-written (a ∷ l) h = refl
 
+pub dwell-unwritten : (w : ℕ) → w ≡ 0 → written (dwellContents w) ≡ []
+unfolding written
+dwell-unwritten zero h = refl
+dwell-unwritten (suc w) h = absurd (let x : ⊥ = omega arith in x)
+
+pub dwell-written : (w : ℕ) → w ≢ 0 → written (dwellContents w) ≡ (countLine DWELL w ++ []) ++ []
+unfolding written entryLines
+dwell-written zero h = absurd (h refl)
+dwell-written (suc w) h = refl
+
 pub job-parts : (j : Numbers) →
     textOf j
     ≡ (countLine NODES (j .network .nodes) ++ [])
@@ -92,6 +103,6 @@ pub job-parts : (j : Numbers) →
     ++ (written (closedContents (j .network .closed))
     ++ ((countLine CARRIERS (carriers j) ++ entryLines (pairs (j .moves)))
     ++ ((countLine ORDER (length (j .order)) ++ entryLines (singles (j .order)))
-    ++ []))))
+    ++ written (dwellContents (j .dwell))))))
 unfolding written entryLines
 job-parts j = rw (written-append (closedContents (j .network .closed)) _)

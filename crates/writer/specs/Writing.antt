@@ -5,10 +5,10 @@
 --     saidWritten     what an answer of writing says: how many bytes the text has, or a refusal's listed
 --                     number with its place
 --     JobWritten      the output is long enough and the job has no fault of its listed checks; its text
---                     stands in front of the output, zeros behind it up to 47,132, and beyond is what came;
+--                     stands in front of the output, zeros behind it up to 47,142, and beyond is what came;
 --                     the answer is how many bytes the text has
 --     NotWritten      the refusal is the first fault: 9 leaves the output as it came, any other number zeroes
---                     its 47,132 bytes
+--                     its 47,142 bytes
 --     Writing         the promise: what is left with what is said
 use mathlib.Core.Path.{_≡_}
 use mathlib.Core.List.{List}

@@ -17,7 +17,7 @@ use Rattle.asks.proofs.check_asked.Tie as tie
 abbrev job : tie.Start → Numbers
 job c =
     jobOf (networkOf (c .args .nodes) (c .args .lanes .now) (c .args .closed .now))
-    (c .args .moves .now) (c .args .order .now)
+    (c .args .moves .now) (c .args .order .now) (c .args .dwell)
 
 -- the job has passed the listed checks
 job-sound : (c : tie.After-enum-told2) →

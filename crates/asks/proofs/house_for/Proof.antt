@@ -21,7 +21,7 @@ use Rattle.asks.proofs.house_for.Tie as tie
 abbrev job : tie.Start → Numbers
 job c =
     jobOf (networkOf (c .args .nodes) (c .args .lanes .now) (c .args .closed .now))
-    (c .args .moves .now) (c .args .order .now)
+    (c .args .moves .now) (c .args .order .now) (c .args .dwell)
 
 -- neither the job nor the number is at fault, and so the carrier has a move
 asked-sound : (c : tie.After-enum-told) →

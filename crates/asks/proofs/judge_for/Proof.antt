@@ -21,7 +21,7 @@ use Rattle.asks.proofs.judge_for.Tie as tie
 abbrev job : tie.Start → Numbers
 job c =
     jobOf (networkOf (c .args .nodes) (c .args .lanes .now) (c .args .closed .now))
-    (c .args .moves .now) (c .args .order .now)
+    (c .args .moves .now) (c .args .order .now) (c .args .dwell)
 
 -- 11, of the list that is asked about
 abbrev Misfit : tie.Start → Type 0

@@ -18,6 +18,7 @@ job-of s =
     jobOf (networkOf (s .args .nodes) (s .args .lanes .now) (s .args .closed .now))
     (s .args .moves .now)
     (s .args .order .now)
+    (s .args .dwell)
 
 abbrev lent-of : tie.Start → Lent
 lent-of s = lent (s .args .table .now) (s .args .distances .now) (s .args .ticks .now)
@@ -81,7 +82,7 @@ returns-2 c =
     let tested = ready .before .before .before .before .before .before .before .before .before .before in
     let s = tested .before .before .before .before .before .before .before .before .before in
     over-cleared (lent-of s) (cleared-lists ready) (roomy tested) (ready .before .before .before .before .before .before .before .before .zero-first .ensures) (ready .before .before .before .before .zero-first2 .ensures) (ready .zero-ticks .ensures) (job-of s)
-    (lent (planned .last .1 .1 .1 .1 .1 .0) (planned .last .1 .1 .1 .1 .1 .1 .0) (planned .last .1 .1 .1 .1 .1 .1 .1 .0)) (saidPlanned (planned .result)) (planned .ensures)
+    (lent (planned .last .1 .1 .1 .1 .1 .1 .0) (planned .last .1 .1 .1 .1 .1 .1 .1 .0) (planned .last .1 .1 .1 .1 .1 .1 .1 .1 .0)) (saidPlanned (planned .result)) (planned .ensures)
 
 pub plan-moves-spec : {M : Type 1} → statement M
 plan-moves-spec =

@@ -16,6 +16,7 @@ job-of s =
     jobOf (networkOf (s .args .nodes) (s .args .lanes .now) (s .args .closed .now))
     (s .args .moves .now)
     (s .args .order .now)
+    (s .args .dwell)
 
 abbrev lent-of : tie.Start → Lent
 lent-of s = lent (s .args .table .now) (s .args .distances .now) (s .args .ticks .now)

@@ -41,7 +41,7 @@ returns-2 c =
     let s = c .before .before .before .before .before .before .before .before .before .before .before .before .before .before in
     let a = s .args in
     let started = c .before .before .before .before .start-ticks in
-    absurd (never-unserved (a .table .now) (a .order .now) (a .ticks .now) (started .last .1 .1 .0) (s .pre .0) (c .enum-told .given .1) (started .ensures))
+    absurd (never-unserved (a .table .now) (a .order .now) (a .dwell) (a .ticks .now) (started .last .1 .1 .1 .0) (s .pre .0) (c .enum-told .given .1) (started .ensures))
 
 pub time-all-spec : {M : Type 1} → statement M
 time-all-spec =

@@ -1,5 +1,6 @@
--- `reader::read_text` meets its contract: the steps of TextSteps.antt, one a section. The part of the closed
--- table that the moves are checked against has the closed nodes that were read. Assumes nothing.
+-- `reader::read_text` meets its contract: the steps of TextSteps.antt and TextEnd.antt, one a section. The
+-- part of the closed table that the moves are checked against has the closed nodes that were read. Assumes
+-- nothing.
 use mathlib.Core.Path.{sym}
 use Prim.Native.Nat.{_≤_}
 use native.Mathlib.Omega.{arith}
@@ -8,10 +9,11 @@ use lib.Seq.{length-take-le}
 use Rattle.hall.specs.Limits.{nodeLimit}
 use Rattle.reader.specs.declared.lines.Progress.{Progress}
 use Rattle.reader.proofs.AfterSection.{After}
-use Rattle.reader.proofs.TextStands.{StartAt, NodesAt, LanesAt, ClosedAt, CarriersAt, OrderAt}
+use Rattle.reader.proofs.TextStands.{StartAt, NodesAt, LanesAt, ClosedAt, CarriersAt, OrderAt, DwellAt}
 use Rattle.reader.proofs.TextSteps.{nodes-ready, lanes-ready, closed-ready, carriers-ready, order-ready}
 use Rattle.reader.proofs.TextSteps.{after-nodes, after-lanes, after-closed, closed-within, after-carriers}
-use Rattle.reader.proofs.TextSteps.{after-order, text-answer}
+use Rattle.reader.proofs.TextSteps.{after-order}
+use Rattle.reader.proofs.TextEnd.{dwell-ready, after-dwell, text-answer}
 use borrow.Author.Needs.{needs}
 use Rattle.reader.proofs.read_text.Statement.{statement}
 use Rattle.reader.proofs.read_text.Tie as tie
@@ -73,6 +75,17 @@ at-order c =
     after-order _ _ _ _ _ _ _ _ _ (rw (c .order-section .kept .1 .1 .0) (pre .order-long)) _ _ (at-carriers (c .before .before .before .before))
     (c .order-section .ensures)
 
+at-dwell : (c : tie.After-dwell-section)
+    → let a = c .before .before .before .before .before .before .before .before .before .before .before .before .before .before .before .before .before .before .before .before .before .before .before .before .before .before .before .args in
+    let lanes′ = c .before .before .before .before .before .before .before .before .before .before .before .before .before .before .before .before .before .lanes-section .last .1 .1 .0 in
+    let closed′ = c .before .before .before .before .before .before .before .before .before .before .before .before .before .closed-section .last .1 .1 .0 in
+    let moves′ = c .before .before .before .before .before .before .before .carriers-section .last .1 .1 .1 .0 in
+    let order′ = c .before .before .before .order-section .last .1 .1 .0 in
+    After (now (a .text))
+    (DwellAt (now (a .text)) (now (a .lanes)) lanes′ (now (a .closed)) closed′ (now (a .moves)) moves′ (now (a .order)) order′)
+    (c .dwell-section .result)
+at-dwell c = after-dwell _ _ _ _ _ _ _ _ _ _ _ (at-order (c .before .before .before)) (c .dwell-section .ensures)
+
 empty-requires : tie.Need-empty-requires
 empty-requires c κs = search needs
 
@@ -110,6 +123,9 @@ carriers-section-requires c κs =
 order-section-requires : tie.Need-order-section-requires
 order-section-requires c κs = (order-ready _ _ _ _ _ _ _ _ (at-carriers (c .before .before .before)), c .before .before .before .before .before .before .before .before .before .before .before .before .before .before .before .before .before .before .before .before .before .before .before .pre .order-long)
 
+dwell-section-requires : tie.Need-dwell-section-requires
+dwell-section-requires c κs = dwell-ready _ _ _ _ _ _ _ _ _ _ (at-order (c .before .before))
+
 at-end-requires : tie.Need-at-end-requires
 at-end-requires c κs = search needs
 
@@ -128,11 +144,11 @@ same-length-4 c = search needs
 returns : tie.Need-returns
 returns c =
     record {
-      answer = text-answer _ _ _ _ _ _ _ _ _ _ _ (at-order (c .before .before .before)) (c .at-end .ensures);
-      beyond-lanes = c .before .before .before .before .before .before .before .before .before .before .before .before .before .before .before .before .before .lanes-section .ensures .beyond;
-      beyond-closed = c .before .before .before .before .before .before .before .before .before .before .before .before .before .closed-section .ensures .beyond;
-      beyond-moves = c .before .before .before .before .before .before .before .carriers-section .ensures .beyond;
-      beyond-order = c .before .before .before .order-section .ensures .beyond;
+      answer = text-answer _ _ _ _ _ _ _ _ _ _ _ (at-dwell (c .before)) (c .at-end .ensures);
+      beyond-lanes = c .before .before .before .before .before .before .before .before .before .before .before .before .before .before .before .before .before .before .lanes-section .ensures .beyond;
+      beyond-closed = c .before .before .before .before .before .before .before .before .before .before .before .before .before .before .closed-section .ensures .beyond;
+      beyond-moves = c .before .before .before .before .before .before .before .before .carriers-section .ensures .beyond;
+      beyond-order = c .before .before .before .before .order-section .ensures .beyond;
     }
 
 pub read-text-spec : {M : Type 1} → statement M
@@ -149,6 +165,7 @@ read-text-spec =
     slice-aggregate-carriers-section
     carriers-section-requires
     order-section-requires
+    dwell-section-requires
     at-end-requires
     same-length
     same-length-2

@@ -13,11 +13,11 @@ use Rattle.rule.proofs.first_tick.Statement.{statement}
 use Rattle.rule.proofs.first_tick.Tie as tie
 
 abbrev Inv-loop : tie.InvT-loop
-Inv-loop held from tick₀ next₀ tick next =
-    TickReached from (PermittedByHeld held (length held / 7)) tick × Swept held tick next
+Inv-loop held dwell from tick₀ next₀ tick next =
+    TickReached from (PermittedByHeld dwell held (length held / 7)) tick × Swept dwell held tick next
 
 abbrev μ-loop : tie.MeasureT-loop
-μ-loop held from tick₀ next₀ tick next = waiting held tick
+μ-loop held dwell from tick₀ next₀ tick next = waiting dwell held tick
 
 sweep-requires : tie.Need-sweep-requires Inv-loop μ-loop
 sweep-requires c κs = search needs
@@ -26,7 +26,7 @@ loop-holds : tie.Need-loop-holds Inv-loop μ-loop
 loop-holds c =
     let args = c .before .before .args in
     let held = args .held .now in
-    (reached-here (args .from) (PermittedByHeld held (length held / 7)), c .sweep .ensures)
+    (reached-here (args .from) (PermittedByHeld (args .dwell) held (length held / 7)), c .sweep .ensures)
 
 sweep-requires-2 : tie.Need-sweep-requires-2 Inv-loop μ-loop
 sweep-requires-2 c κs = omega arith
@@ -34,7 +34,8 @@ sweep-requires-2 c κs = omega arith
 loop-less : tie.Need-loop-less Inv-loop μ-loop
 loop-less c =
     let loop = c .before .before in
-    waiting-falls (loop .before .before .before .args .held .now) (loop .loop .tick) (loop .loop .next)
+    let args = loop .before .before .before .args in
+    waiting-falls (args .dwell) (args .held .now) (loop .loop .tick) (loop .loop .next)
     (omega arith) (loop .loop .inv .1 .passed (omega arith))
 
 loop-again : tie.Need-loop-again Inv-loop μ-loop
@@ -45,7 +46,7 @@ returns : tie.Need-returns Inv-loop μ-loop
 returns c =
     let args = c .before .before .before .before .args in
     let loop = c .before .loop in
-    swept-smallest (args .held .now) (args .from) (loop .tick) (loop .next)
+    swept-smallest (args .dwell) (args .held .now) (args .from) (loop .tick) (loop .next)
     (loop .inv .0) (loop .inv .1) (omega arith)
 
 pub first-tick-spec : {M : Type 1} → statement M

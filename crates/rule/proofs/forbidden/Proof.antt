@@ -1,7 +1,8 @@
 -- `rule::forbidden` meets its contract. The signed rule is the rule with additions only (`forbidden-iff`),
 -- and the tests are the parts of the latter, one after the other: a test that fails excludes the part, and
--- where the last ones are reached all parts hold but the exception. With the gap at 0 and the parity odd, the
--- exception holds exactly at the two ends (rule 4.8). There is no loop. Assumes nothing.
+-- where the last ones are reached all parts hold but the exception. With a dwell there is none; without, with
+-- the gap at 0 and the parity odd, it holds exactly at the two ends (rule 4.8). There is no loop. Assumes
+-- nothing.
 use mathlib.Core.Logic.{_↔_, inl, inr}
 use native.Mathlib.Omega.{arith}
 use Rattle.hall.specs.Rule.{Pair, pair6, Forbidden, Forbidden⁺}
@@ -17,9 +18,9 @@ pair s = let a = s .args in pair6 (a .ss) (a .gg) (a .ii) (a .jj) (a .ij) (a .ji
 
 -- the two forms of the rule at the arguments
 same : (s : tie.Start)
-    → Forbidden (pair s) (pos (s .args .tj) -ℤ pos (s .args .ti))
-    ↔ Forbidden⁺ (pair s) (s .args .ti) (s .args .tj)
-same s = forbidden-iff (pair s) (s .args .ti) (s .args .tj)
+    → Forbidden (s .args .dwell) (pair s) (pos (s .args .tj) -ℤ pos (s .args .ti))
+    ↔ Forbidden⁺ (s .args .dwell) (pair s) (s .args .ti) (s .args .tj)
+same s = forbidden-iff (s .args .dwell) (pair s) (s .args .ti) (s .args .tj)
 
 add-starts-goals : tie.Need-add-starts-goals
 add-starts-goals c = search needs
@@ -33,11 +34,17 @@ add-low c = search needs
 add-low-end : tie.Need-add-low-end
 add-low-end c = search needs
 
+add-low-end-2 : tie.Need-add-low-end-2
+add-low-end-2 c = search needs
+
 add-high : tie.Need-add-high
 add-high c = search needs
 
 add-high-end : tie.Need-add-high-end
 add-high-end c = search needs
+
+add-high-end-2 : tie.Need-add-high-end-2
+add-high-end-2 c = search needs
 
 add-parity : tie.Need-add-parity
 add-parity c = search needs
@@ -68,7 +75,7 @@ returns-5 c = same (c .before .before .before .before .before) .1
       gap-not-above = omega arith;
       low = omega arith;
       high = omega arith;
-      not-excepted = λ x. omega arith;
+      not-excepted = λ z x. omega arith;
     })
 
 returns-6 : tie.Need-returns-6
@@ -78,25 +85,37 @@ returns-6 c = same (c .before .before .before .before .before .before) .1
       gap-not-above = omega arith;
       low = omega arith;
       high = omega arith;
-      not-excepted = λ x. omega arith;
+      not-excepted = λ z x. omega arith;
     })
 
 returns-7 : tie.Need-returns-7
-returns-7 c = λ f. let g = same (c .before .before .before .before .before .before .before) .0 f in
-    g .not-excepted (record { gap-zero = omega arith; at-an-end = inl (omega arith); odd = omega arith })
-
-returns-8 : tie.Need-returns-8
-returns-8 c = λ f. let g = same (c .before .before .before .before .before .before .before .before) .0 f in
-    g .not-excepted (record { gap-zero = omega arith; at-an-end = inr (omega arith); odd = omega arith })
-
-returns-9 : tie.Need-returns-9
-returns-9 c = same (c .before .before .before .before .before .before .before .before) .1
+returns-7 c = same (c .before .before .before .before .before .before .before) .1
     (record {
       joined = omega arith;
       gap-not-above = omega arith;
       low = omega arith;
       high = omega arith;
-      not-excepted = λ x. elim (x .at-an-end) [ inl h ↦ omega arith | inr h ↦ omega arith ];
+      not-excepted = λ z x. omega arith;
+    })
+
+returns-8 : tie.Need-returns-8
+returns-8 c = λ f. let g = same (c .before .before .before .before .before .before .before .before) .0 f in
+    g .not-excepted (omega arith)
+    (record { gap-zero = omega arith; at-an-end = inl (omega arith); odd = omega arith })
+
+returns-9 : tie.Need-returns-9
+returns-9 c = λ f. let g = same (c .before .before .before .before .before .before .before .before .before) .0 f in
+    g .not-excepted (omega arith)
+    (record { gap-zero = omega arith; at-an-end = inr (omega arith); odd = omega arith })
+
+returns-10 : tie.Need-returns-10
+returns-10 c = same (c .before .before .before .before .before .before .before .before .before) .1
+    (record {
+      joined = omega arith;
+      gap-not-above = omega arith;
+      low = omega arith;
+      high = omega arith;
+      not-excepted = λ z x. elim (x .at-an-end) [ inl h ↦ omega arith | inr h ↦ omega arith ];
     })
 
 pub forbidden-spec : {M : Type 1} → statement M
@@ -107,8 +126,10 @@ forbidden-spec =
     add-owns
     add-low
     add-low-end
+    add-low-end-2
     add-high
     add-high-end
+    add-high-end-2
     add-parity
     add-parity-2
     cast-if1
@@ -120,4 +141,5 @@ forbidden-spec =
     returns-6
     returns-7
     returns-8
-    returns-9)
+    returns-9
+    returns-10)

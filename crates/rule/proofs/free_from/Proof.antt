@@ -1,6 +1,7 @@
 -- `rule::free_from` meets its contract. The inner rule says whether the tick is forbidden. If it is, the laws
--- of one stretch (`Stretch`) give the first free tick: after the high end where the gap is below 0 or the
--- parity is even, and at it otherwise. There is no loop. Assumes nothing.
+-- of one stretch (`Stretch`) give the first free tick: after the high end where there is a dwell, the gap is
+-- below 0 or the parity is even, and at it otherwise. There is no loop. Assumes nothing.
+use mathlib.Core.Path.{_≡_}
 use mathlib.Core.Logic.{inr}
 use Prim.Native.Nat.{ℕ, _+_, _-_}
 use native.Mathlib.Omega.{arith}
@@ -16,15 +17,15 @@ use Rattle.rule.proofs.free_from.Tie as tie
 abbrev pair : tie.Start → Pair
 pair s = let a = s .args in pair6 (a .ss) (a .gg) (a .ii) (a .jj) (a .ij) (a .ji)
 
--- the last tick of the stretch
+-- the upper end of the stretch
 abbrev last : tie.Start → ℕ
-last s = let a = s .args in a .ti + a .ii - a .ji
+last s = let a = s .args in a .ti + a .ii + a .dwell - a .ji
 
 -- past the first test the tick is forbidden
-clash : (c : tie.Else1) → let s = c .before .before in Forbidden⁺ (pair s) (s .args .ti) (s .args .from)
+clash : (c : tie.Else1) → let s = c .before .before in Forbidden⁺ (s .args .dwell) (pair s) (s .args .ti) (s .args .from)
 clash c =
     let s = c .before .before in
-    forbidden-iff (pair s) (s .args .ti) (s .args .from) .0
+    forbidden-iff (s .args .dwell) (pair s) (s .args .ti) (s .args .from) .0
     (affirmed-not (c .before .forbidden .result) (c .if1 .left) (c .before .forbidden .ensures))
 
 add-starts-goals : tie.Need-add-starts-goals
@@ -36,13 +37,16 @@ add-owns c = search needs
 add-high-end : tie.Need-add-high-end
 add-high-end c = search needs
 
+add-high-end-2 : tie.Need-add-high-end-2
+add-high-end-2 c = search needs
+
 forbidden-requires : tie.Need-forbidden-requires
 forbidden-requires c κs = search needs
 
 returns : tie.Need-returns
 returns c =
     let s = c .before .before in
-    free-here (pair s) (s .args .ti) (s .args .from)
+    free-here (s .args .dwell) (pair s) (s .args .ti) (s .args .from)
     (denied-not (c .before .forbidden .result) (c .if1 .taken) (c .before .forbidden .ensures))
 
 sub-last : tie.Need-sub-last
@@ -61,25 +65,33 @@ returns-2 : tie.Need-returns-2
 returns-2 c =
     let s = c .before .before .before in
     let f = clash (c .before) in
-    free-after-last (pair s) (s .args .ti) (s .args .from) (last s) f (omega (arith, f .high))
-    (λ e. omega (arith, e .gap-zero, c .if2 .taken))
+    free-after-last (s .args .dwell) (pair s) (s .args .ti) (s .args .from) (last s) f (omega (arith, f .high))
+    (λ z e. omega (arith, c .if2 .taken))
 
 returns-3 : tie.Need-returns-3
 returns-3 c =
     let s = c .before .before .before .before in
     let f = clash (c .before .before) in
-    free-after-last (pair s) (s .args .ti) (s .args .from) (last s) f (omega (arith, f .high))
-    (λ e. omega (arith, e .odd, c .if3 .taken))
+    free-after-last (s .args .dwell) (pair s) (s .args .ti) (s .args .from) (last s) f (omega (arith, f .high))
+    (λ z e. omega (arith, e .gap-zero, c .if3 .taken))
 
 returns-4 : tie.Need-returns-4
 returns-4 c =
-    let s = c .before .before .before .before in
-    let f = clash (c .before .before) in
-    free-at-last (pair s) (s .args .ti) (s .args .from) (last s) f (omega (arith, f .high))
+    let s = c .before .before .before .before .before in
+    let f = clash (c .before .before .before) in
+    free-after-last (s .args .dwell) (pair s) (s .args .ti) (s .args .from) (last s) f (omega (arith, f .high))
+    (λ z e. omega (arith, e .odd, c .if4 .taken))
+
+returns-5 : tie.Need-returns-5
+returns-5 c =
+    let s = c .before .before .before .before .before in
+    let f = clash (c .before .before .before) in
+    let none : s .args .dwell ≡ 0 = omega (arith, c .before .before .if2 .left) in
+    free-at-last (s .args .dwell) (pair s) (s .args .ti) (s .args .from) (last s) f (omega (arith, f .high)) none
     (record {
-      gap-zero = omega (arith, f .gap-not-above, c .before .if2 .left);
+      gap-zero = omega (arith, f .gap-not-above, c .before .if3 .left);
       at-an-end = inr (omega (arith, f .high));
-      odd = omega (arith, c .if3 .left);
+      odd = omega (arith, c .if4 .left);
     })
 
 pub free-from-spec : {M : Type 1} → statement M
@@ -89,6 +101,7 @@ free-from-spec =
     add-starts-goals
     add-owns
     add-high-end
+    add-high-end-2
     forbidden-requires
     returns
     sub-last
@@ -97,4 +110,5 @@ free-from-spec =
     add-after
     returns-2
     returns-3
-    returns-4)
+    returns-4
+    returns-5)

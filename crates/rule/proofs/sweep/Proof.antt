@@ -11,15 +11,15 @@ use Rattle.rule.proofs.sweep.Statement.{statement}
 use Rattle.rule.proofs.sweep.Tie as tie
 
 abbrev Inv-loop : tie.InvT-loop
-Inv-loop held from count tick₀ place₀ tick place =
-    (count ≡ length held / 7) × (place ≤ count) × SweptTo held from place tick
+Inv-loop held dwell from count tick₀ place₀ tick place =
+    (count ≡ length held / 7) × (place ≤ count) × SweptTo dwell held from place tick
 
 abbrev μ-loop : tie.MeasureT-loop
-μ-loop held from count tick₀ place₀ tick place = count - place
+μ-loop held dwell from count tick₀ place₀ tick place = count - place
 
 loop-holds : tie.Need-loop-holds Inv-loop μ-loop
 loop-holds c =
-    (refl, omega arith, sweep-begins (c .before .args .held .now) (c .before .args .from) (c .before .pre))
+    (refl, omega arith, sweep-begins (c .before .args .dwell) (c .before .args .held .now) (c .before .args .from) (c .before .pre))
 
 free-at-requires : tie.Need-free-at-requires Inv-loop μ-loop
 free-at-requires c κs = omega arith
@@ -39,7 +39,7 @@ loop-again c =
     let args = loop .before .before .args in (
       refl,
       omega arith,
-      sweep-on (args .held .now) (args .from) place (loop .loop .tick) (c .free-at .result)
+      sweep-on (args .dwell) (args .held .now) (args .from) place (loop .loop .tick) (c .free-at .result)
           (c .before .loop-test .taken) (loop .loop .inv .2) (c .free-at .ensures)
           (omega (arith, known (7 * place), known (7 * place + 3))),
     )
@@ -47,7 +47,7 @@ loop-again c =
 returns : tie.Need-returns Inv-loop μ-loop
 returns c =
     let args = c .before .before .before .args in
-    sweep-ends (args .held .now) (args .from) (omega arith) (c .before .loop .inv .2)
+    sweep-ends (args .dwell) (args .held .now) (args .from) (omega arith) (c .before .loop .inv .2)
 
 pub sweep-spec : {M : Type 1} → statement M
 sweep-spec =

@@ -1,5 +1,5 @@
 -- `ticks::cost` meets its contract. The invariant: the sum is that of the goal ticks of the first i carriers,
--- and at most 4,194,304 for each of them, since a tick is early and a distance below 65,536; so 64 of them
+-- and at most 4,210,368 for each of them, since a tick is early and a distance below 65,536; so 64 of them
 -- fit 32 bits. The measure is what is left of the carriers. Assumes nothing.
 use mathlib.Core.Path.{_≡_, sym}
 use Prim.Native.Nat.{_+_, _*_, _-_, _≤_, _<_}
@@ -14,14 +14,14 @@ use Rattle.ticks.proofs.cost.Tie as tie
 
 abbrev Inv-loop : tie.InvT-loop
 Inv-loop table k ticks sum₀ i₀ sum i =
-    (i ≤ k) × (sum ≤ 4194304 * i) × (sum ≡ costOf (tablesIn table) (λ j. getD ticks j 0) i)
+    (i ≤ k) × (sum ≤ 4210368 * i) × (sum ≡ costOf (tablesIn table) (λ j. getD ticks j 0) i)
 
 abbrev μ-loop : tie.MeasureT-loop
 μ-loop table k ticks sum₀ i₀ sum i = k - i
 
 -- a turn adds a tick that is early and a distance below 65,536
 turn-early : (c : tie.After-shared-slice-known2 Inv-loop μ-loop) →
-    let at = c .before .before .before in getD (at .before .args .ticks .now) (at .loop .i) 0 ≤ 4128768
+    let at = c .before .before .before in getD (at .before .args .ticks .now) (at .loop .i) 0 ≤ 4144833
 turn-early c =
     let at = c .before .before .before in
     at .before .pre .3 .by-number (at .loop .i) (c .before .before .loop-test .taken)

@@ -11,22 +11,22 @@ use Rattle.ticks.proofs.place_all.Statement.{statement}
 use Rattle.ticks.proofs.place_all.Tie as tie
 
 abbrev Inv-loop : tie.InvT-loop
-Inv-loop table order ticks₀ count q₀ ticks q =
-    (count ≡ length order) × (q ≤ count) × PlacedTo table order ticks₀ ticks q
+Inv-loop table order dwell ticks₀ count q₀ ticks q =
+    (count ≡ length order) × (q ≤ count) × PlacedTo dwell table order ticks₀ ticks q
 
 abbrev μ-loop : tie.MeasureT-loop
-μ-loop table order ticks₀ count q₀ ticks q = count - q
+μ-loop table order dwell ticks₀ count q₀ ticks q = count - q
 
 loop-holds : tie.Need-loop-holds Inv-loop μ-loop
 loop-holds c =
     let a = c .before .before .before .args in
-    (refl, omega arith, placed-none (a .table .now) (a .order .now) (a .ticks .now))
+    (refl, omega arith, placed-none (a .dwell) (a .table .now) (a .order .now) (a .ticks .now))
 
 place-next-requires : tie.Need-place-next-requires Inv-loop μ-loop
 place-next-requires c κs =
     let at = c .before .before in
     let placed = at .loop .inv .2 in
-    (rw (placed .as-many) (at .before .before .before .before .pre), omega arith, placed .early)
+    (rw (placed .as-many) (at .before .before .before .before .pre .0), omega arith, placed .early, at .before .before .before .before .pre .1)
 
 add-q : tie.Need-add-q Inv-loop μ-loop
 add-q c = omega arith
@@ -43,8 +43,8 @@ loop-again c =
     let next = c .before .before .place-next in (
       refl,
       omega arith,
-      placed-more (a .table .now) (a .order .now) (a .ticks .now) (length (a .ticks .now)) (start .pre)
-          (loop .ticks) (next .last .1 .1 .1 .0) (loop .q) (omega arith) (loop .inv .2 .as-many)
+      placed-more (a .dwell) (a .table .now) (a .order .now) (a .ticks .now) (length (a .ticks .now)) (start .pre .0)
+          (loop .ticks) (next .last .1 .1 .1 .1 .0) (loop .q) (omega arith) (loop .inv .2 .as-many)
           (loop .inv .2) (next .ensures),
     )
 

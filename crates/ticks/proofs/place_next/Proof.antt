@@ -24,23 +24,24 @@ begun c = c .before .before .before .before .before .before .before .before .bef
 smallest : (c : tie.After-struct-known) →
     let a = begun c .args in
     SmallestFrom 0
-    (PermittedAt (tablesIn (a .table .now)) (a .order .now) (λ i. getD (a .ticks .now) i 0) (a .q .0))
+    (PermittedAt (a .dwell) (tablesIn (a .table .now)) (a .order .now) (λ i. getD (a .ticks .now) i 0) (a .q .0))
     (c .before .before .first-tick .result)
 smallest c =
     let start = begun c in
     let a = start .args in
     let gather = c .before .before .before .before .before .gather in
-    lent-smallest (a .table .now) (a .order .now) (a .ticks .now) _ (gather .last .1 .1 .1 .1 .0) (a .q .0)
+    lent-smallest (a .dwell) (a .table .now) (a .order .now) (a .ticks .now) _ (gather .last .1 .1 .1 .1 .0) (a .q .0)
     (gather .ensures) (omega (arith, gather .ensures .as-many, start .pre .0 .few-places, start .pre .1))
     (c .before .before .first-tick .ensures)
 
-early : (c : tie.After-struct-known) → c .before .before .first-tick .result ≤ 65536 * (begun c .args .q .0)
+early : (c : tie.After-struct-known) → c .before .before .first-tick .result ≤ 65791 * (begun c .args .q .0)
 early c =
     let start = begun c in
     let a = start .args in
     let after = c .before .before .before .before .before .before .before .before .before .before in
     let known = after .shared-slice-known .given in
-    next-early (a .table .now) (a .order .now) (a .ticks .now) (a .q .0) (λ k. omega (arith, known k))
+    next-early (a .dwell) (a .table .now) (a .order .now) (a .ticks .now) (a .q .0) (start .pre .3)
+    (λ k. omega (arith, known k))
     (start .pre .2) (smallest c)
 
 slice-aggregate-gather : tie.Need-slice-aggregate-gather

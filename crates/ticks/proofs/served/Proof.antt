@@ -1,4 +1,4 @@
--- `ticks::served` meets its contract. Each test that fails denies a part of `TicksServed`; when all three
+-- `ticks::served` meets its contract. Each test that fails denies a part of `TicksServed`; when all four
 -- hold, the check of the order decides the last part. There is no loop. Assumes nothing.
 use mathlib.Core.List.{[], _∷_}
 use native.Mathlib.Omega.{arith}
@@ -24,6 +24,9 @@ returns-2 c = search needs
 returns-3 : tie.Need-returns-3
 returns-3 c = search needs
 
+returns-4 : tie.Need-returns-4
+returns-4 c = search needs
+
 check-order-requires : tie.Need-check-order-requires
 check-order-requires c κs = search needs
 
@@ -33,23 +36,26 @@ enum-told c = search needs
 enum-told-2 : tie.Need-enum-told-2
 enum-told-2 c = search needs
 
-returns-4 : tie.Need-returns-4
-returns-4 c =
-    let start = c .before .before .before .before .before .before .before .before in
-    let check = c .before .before .check-order in
-    record {
-      whole-table = omega arith;
-      few-places = omega arith;
-      sound-order = sound-none (asked-order start) (c .enum-told .given .1) (check .ensures);
-      enough-room = omega arith;
-    }
-
 returns-5 : tie.Need-returns-5
 returns-5 c =
-    let start = c .before .before .before .before .before .before .before .before in
+    let start = c .before .before .before .before .before .before .before .before .before in
+    let check = c .before .before .check-order in
+    record {
+      listed = record {
+        whole-table = omega arith;
+        few-places = omega arith;
+        sound-order = sound-none (asked-order start) (c .enum-told .given .1) (check .ensures);
+        enough-room = omega arith;
+      };
+      dwell-few = omega arith;
+    }
+
+returns-6 : tie.Need-returns-6
+returns-6 c =
+    let start = c .before .before .before .before .before .before .before .before .before in
     let check = c .before .before .check-order in
     let first = refused-first (asked-order start) (c .enum-told2 .given .1) (check .ensures) in
-    λ s. none-excludes first (s .sound-order)
+    λ s. none-excludes first (s .listed .sound-order)
 
 pub served-spec : {M : Type 1} → statement M
 served-spec =
@@ -58,8 +64,9 @@ served-spec =
     returns
     returns-2
     returns-3
+    returns-4
     check-order-requires
     enum-told
     enum-told-2
-    returns-4
-    returns-5)
+    returns-5
+    returns-6)

@@ -14,7 +14,7 @@ use Rattle.ticks.proofs.start_ticks.Tie as tie
 -- past the first test the input is served
 passed : (c : tie.Else1) →
     let a = c .before .before .before .before .before .args in
-    TicksServed (a .table .now) (a .order .now) (length (a .ticks .now))
+    TicksServed (a .table .now) (a .order .now) (a .dwell) (length (a .ticks .now))
 passed c = affirmed-not (c .before .served .result) (c .if1 .left) (c .before .served .ensures)
 
 served-requires : tie.Need-served-requires
@@ -24,18 +24,23 @@ returns : tie.Need-returns
 returns c =
     left-untouched (denied-not (c .before .served .result) (c .if1 .taken) (c .before .served .ensures))
 
+cast-place-all : tie.Need-cast-place-all
+cast-place-all c = omega (arith, passed c .dwell-few)
+
 place-all-requires : tie.Need-place-all-requires
-place-all-requires c κs = passed (c .before)
+place-all-requires c κs =
+    let served = passed (c .before) in
+    (served .listed, served .dwell-few)
 
 cost-requires : tie.Need-cost-requires
 cost-requires c κs =
     let served = passed (c .before .before .before .before .before) in
     let all = c .before .before .before .place-all in
     let placed = all .ensures in (
-      served .whole-table,
-      served .few-places,
-      omega (arith, placed .as-many, served .few-places, served .enough-room),
-      all-early served (all .last .1 .1 .0) (placed .early),
+      served .listed .whole-table,
+      served .listed .few-places,
+      omega (arith, placed .as-many, served .listed .few-places, served .listed .enough-room),
+      all-early (served .listed) (all .last .1 .1 .1 .0) (placed .early),
     )
 
 same-length : tie.Need-same-length
@@ -46,10 +51,10 @@ returns-2 c =
     let a = c .before .before .before .before .before .before .before .before .before .before .before .args in
     let all = c .before .before .before .before .place-all in
     let served = passed (c .before .before .before .before .before .before) in
-    placed-given (a .table .now) (a .order .now) (a .ticks .now) (all .last .1 .1 .0) (c .cost .result)
+    placed-given (a .table .now) (a .order .now) (a .dwell) (a .ticks .now) (all .last .1 .1 .1 .0) (c .cost .result)
     served (all .ensures) (c .cost .ensures)
 
 pub start-ticks-spec : {M : Type 1} → statement M
 start-ticks-spec =
     tie.close
-    (tie.spec served-requires returns place-all-requires cost-requires same-length returns-2)
+    (tie.spec served-requires returns cast-place-all place-all-requires cost-requires same-length returns-2)

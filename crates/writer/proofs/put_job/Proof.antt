@@ -12,8 +12,9 @@ use Rattle.writer.proofs.put_job.Statement.{statement}
 use Rattle.writer.proofs.put_job.Tie as tie
 
 -- where the function starts, and the job that is written
-abbrev start : tie.After-put-singles → tie.Start
-start places =
+abbrev start : tie.After-put-dwell → tie.Start
+start wait =
+    let places = wait .before .before .before .before in
     let order = places .before .before .before .before in
     let moves = order .before .before .before .before .before in
     let carriers = moves .before .before .before .before in
@@ -28,6 +29,7 @@ job s =
     jobOf (networkOf (s .args .nodes) (s .args .lanes .now) (s .args .closed .now))
     (s .args .moves .now)
     (s .args .order .now)
+    (s .args .dwell)
 
 slice-aggregate-put-count : tie.Need-slice-aggregate-put-count
 slice-aggregate-put-count c = search needs
@@ -65,12 +67,16 @@ put-count-requires-4 c κs = search needs
 put-singles-requires : tie.Need-put-singles-requires
 put-singles-requires c κs = search needs
 
+put-dwell-requires : tie.Need-put-dwell-requires
+put-dwell-requires c κs = search needs
+
 -- the sections, when the last of them is put
-sections-put : (c : tie.After-put-singles) →
+sections-put : (c : tie.After-put-dwell) →
     let begin = start c in
-    Put (begin .args .out .now) 0 (textOf (job begin)) (c .put-singles .last .1 .0) (c .put-singles .result)
+    Put (begin .args .out .now) 0 (textOf (job begin)) (c .put-dwell .last .1 .0) (c .put-dwell .result)
 unfolding NODES LANES CARRIERS ORDER
-sections-put places =
+sections-put wait =
+    let places = wait .before .before .before .before in
     let order = places .before .before .before .before in
     let moves = order .before .before .before .before .before in
     let carriers = moves .before .before .before .before in
@@ -84,7 +90,9 @@ sections-put places =
     let fourth = put-then (order .put-count4 .ensures) (places .put-singles .ensures) in
     rw job-parts
     (put-then first
-    (put-then second (put-then (shut .put-closed-nodes .ensures) (put-then third (put-then fourth (put-none _ _))))))
+    (put-then second
+    (put-then (shut .put-closed-nodes .ensures)
+    (put-then third (put-then fourth (wait .put-dwell .ensures))))))
 
 same-length : tie.Need-same-length
 same-length c = put-kept (sections-put (c .before .before))
@@ -108,5 +116,6 @@ put-job-spec =
     slice-aggregate-put-count-4
     put-count-requires-4
     put-singles-requires
+    put-dwell-requires
     same-length
     returns)

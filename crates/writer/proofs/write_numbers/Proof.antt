@@ -15,6 +15,7 @@ job c =
     jobOf (networkOf (c .args .nodes) (c .args .lanes .now) (c .args .closed .now))
     (c .args .moves .now)
     (c .args .order .now)
+    (c .args .dwell)
 
 returns : tie.Need-returns
 returns c =

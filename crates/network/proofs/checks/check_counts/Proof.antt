@@ -5,7 +5,7 @@ use mathlib.Core.Logic.{inl, inr}
 use native.Mathlib.Omega.{arith}
 use borrow.Author.Needs.{needs}
 use Rattle.hall.specs.declared.Job.{Job}
-use Rattle.hall.specs.Limits.{nodeLimit, laneLimit, carrierLimit}
+use Rattle.hall.specs.Limits.{nodeLimit, laneLimit, carrierLimit, dwellLimit}
 use Rattle.hall.proofs.Compose.{answered, none-at-all}
 use Rattle.hall.proofs.Places.{neither, asked-here, asked-later, asked-clear}
 use Rattle.network.proofs.checks.check_counts.Statement.{statement}
@@ -23,6 +23,9 @@ closed-limit c = ap (λ (j : Job). j .closed) (c .largest .ensures)
 
 carriers-limit : (c : tie.After-largest) → c .largest .result .carriers ≡ carrierLimit
 carriers-limit c = ap (λ (j : Job). j .carriers) (c .largest .ensures)
+
+dwell-limit : (c : tie.After-largest) → c .largest .result .dwell ≡ dwellLimit
+dwell-limit c = ap (λ (j : Job). j .dwell) (c .largest .ensures)
 
 largest-requires : tie.Need-largest-requires
 largest-requires c κs = search needs
@@ -102,16 +105,32 @@ returns-7 c =
     (asked-later (omega (arith, carriers-limit largest))
     (asked-here (c .before .if7 .taken))))))
 
+refused-requires-8 : tie.Need-refused-requires-8
+refused-requires-8 c κs = search needs
+
 returns-8 : tie.Need-returns-8
 returns-8 c =
-    let four = c .before .before .before .before .before in
+    let four = c .before .before .before .before .before .before .before .before in
+    let largest = four .before .before .before .before .before .before in
+    answered (c .refused8 .ensures)
+    (asked-later (neither (omega arith) (omega (arith, nodes-limit largest)))
+    (asked-later (neither (omega (arith, lanes-limit largest)) (four .if4 .left))
+    (asked-later (omega (arith, closed-limit largest))
+    (asked-later (omega (arith, carriers-limit largest))
+    (asked-later (λ differ. differ (c .before .before .before .if7 .left))
+    (asked-here (omega (arith, dwell-limit largest))))))))
+
+returns-9 : tie.Need-returns-9
+returns-9 c =
+    let four = c .before .before .before .before .before .before .before in
     let largest = four .before .before .before .before .before .before in
     asked-clear (neither (omega arith) (omega (arith, nodes-limit largest)))
     (asked-clear (neither (omega (arith, lanes-limit largest)) (four .if4 .left))
     (asked-clear (omega (arith, closed-limit largest))
     (asked-clear (omega (arith, carriers-limit largest))
-    (asked-clear (λ differ. differ (c .if7 .left))
-    none-at-all))))
+    (asked-clear (λ differ. differ (c .before .before .if7 .left))
+    (asked-clear (omega (arith, dwell-limit largest))
+    none-at-all)))))
 
 pub check-counts-spec : {M : Type 1} → statement M
 check-counts-spec =
@@ -132,4 +151,6 @@ check-counts-spec =
     returns-6
     refused-requires-7
     returns-7
-    returns-8)
+    refused-requires-8
+    returns-8
+    returns-9)

@@ -17,11 +17,12 @@ abbrev job : tie.Start → Numbers
 job s =
     let args = s .args in
     jobOf (networkOf (args .nodes) (args .lanes .now) (args .closed .now)) (args .moves .now) (args .order .now)
+    (args .dwell)
 
 abbrev counted-by : Numbers → Question
 counted-by j =
     counts (j .network .nodes) (length (j .network .lanes)) (length (j .network .closed)) (carriers j)
-    (length (j .order))
+    (length (j .order)) (j .dwell)
 
 abbrev lanes-of : Numbers → Question
 lanes-of j = eachLane (j .network .nodes) (j .network .lanes) ∷ []

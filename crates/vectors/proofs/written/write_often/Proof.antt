@@ -8,10 +8,11 @@ use Rattle.vectors.proofs.written.write_often.Statement.{statement}
 use Rattle.vectors.proofs.written.write_often.Tie as tie
 
 abbrev Inv-loop : tie.InvT-loop
-Inv-loop further nodes lanes closed moves order out₀ i₀ out i = (i ≤ further) × (length out ≡ length out₀)
+Inv-loop further nodes lanes closed moves order dwell out₀ i₀ out i =
+    (i ≤ further) × (length out ≡ length out₀)
 
 abbrev μ-loop : tie.MeasureT-loop
-μ-loop further nodes lanes closed moves order out₀ i₀ out i = further - i
+μ-loop further nodes lanes closed moves order dwell out₀ i₀ out i = further - i
 
 loop-holds : tie.Need-loop-holds Inv-loop μ-loop
 loop-holds c = search needs
