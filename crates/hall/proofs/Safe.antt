@@ -108,7 +108,8 @@ module _ {F : Floor} (both-ways : Symmetric F) {si gi sj gj : ℕ} {p : Pair} (s
     meet-forbidden m =
         let i = m .first in
         let j = m .second in
-        meet-at (i .gone) (i .stood) (j .gone) (j .stood) (i .time ∙ sym (j .time)) (i .within-dwell) (j .within-dwell)
+        meet-at (i .gone) (i .stood) (j .gone) (j .stood) (i .time ∙ sym (j .time))
+        (omega (arith, i .within-dwell)) (omega (arith, j .within-dwell))
         (on-path i (P .size)) (on-path j (Q .size)) (i .node ∙ sym (j .node))
 
     cross-forbidden : Cross w path ti path′ tj → Forbidden⁺ w p ti tj
