@@ -29,8 +29,8 @@ use Rattle.planner.specs.Planning.{saidPlanned, Lent, ShortOf, Planning}
 use Rattle.planner.proofs.Exactly.{planning-refused-exactly}
 use Rattle.writer.specs.declared.Written.{Written}
 use Rattle.writer.specs.Writing.{saidWritten, Writing}
-use Rattle.jobs.specs.Job.{recordJob}
-use Rattle.jobs.specs.Planning.{RecordPlanning}
+use Rattle.recorded.specs.Job.{recordJob}
+use Rattle.recorded.specs.Planning.{RecordPlanning}
 use Rattle.demands.specs.Closed.{beforeClosed, beforeMoves, ClosedEntryAt, ClosedEndAt}
 use Rattle.demands.proofs.Demands.{plan-refused-exactly}
 use Rattle.demands.proofs.Written.{write-refused-exactly}

@@ -82,14 +82,14 @@ use Rattle.path.proofs.Exactly as paths
 use Rattle.planner.specs.declared.Planned.{Planned}
 use Rattle.planner.specs.declared.Planned.the-variants.{Cost, Refused}
 use Rattle.planner.specs.Planning.{saidPlanned}
-use Rattle.jobs.specs.Job.{recordJob}
-use Rattle.jobs.specs.Reading.{LentShort, filledRecords, GivenJob, ReadLeft, jobRead}
-use Rattle.jobs.specs.Planning.{recordQuestion, tickOf, distanceOf, RecordsLeft, GivenRecords, RecordPlanning}
-use Rattle.jobs.specs.Asking.{HouseOfRecords, ListOfRecords}
-use Rattle.jobs.specs.Demands.{Demand2, NoEarlierFault}
-use Rattle.jobs.proofs.ReadJob.{read-is-written}
-use Rattle.jobs.proofs.ReadExactly as reads
-use Rattle.jobs.proofs.Unique.{read-job-unique, plan-unique, planned-sound, house-unique, judge-unique}
+use Rattle.recorded.specs.Job.{recordJob}
+use Rattle.recorded.specs.Reading.{LentShort, filledRecords, GivenJob, ReadLeft, jobRead}
+use Rattle.recorded.specs.Planning.{recordQuestion, tickOf, distanceOf, RecordsLeft, GivenRecords, RecordPlanning}
+use Rattle.recorded.specs.Asking.{HouseOfRecords, ListOfRecords}
+use Rattle.recorded.specs.Demands.{Demand2, NoEarlierFault}
+use Rattle.recorded.proofs.ReadJob.{read-is-written}
+use Rattle.recorded.proofs.ReadExactly as reads
+use Rattle.recorded.proofs.Unique.{read-job-unique, plan-unique, planned-sound, house-unique, judge-unique}
 
 -- ---- demand 1: reading
 

@@ -54,12 +54,12 @@ use Rattle.planner.proofs.Exactly.{planning-refused-exactly}
 use Rattle.writer.specs.declared.Written.{Written}
 use Rattle.writer.specs.declared.Written.the-variants.{Bytes}
 use Rattle.writer.specs.Writing.{saidWritten, Writing}
-use Rattle.jobs.specs.Job.{recordJob}
-use Rattle.jobs.specs.Reading.{LentShort, ReadLeft, jobRead}
-use Rattle.jobs.specs.Planning.{tickOf, RecordPlanning}
-use Rattle.jobs.specs.Asking.{HouseOfRecords, ListOfRecords}
-use Rattle.jobs.specs.Writing.{RecordWriting}
-use Rattle.jobs.proofs.Unique.{planned-sound}
+use Rattle.recorded.specs.Job.{recordJob}
+use Rattle.recorded.specs.Reading.{LentShort, ReadLeft, jobRead}
+use Rattle.recorded.specs.Planning.{tickOf, RecordPlanning}
+use Rattle.recorded.specs.Asking.{HouseOfRecords, ListOfRecords}
+use Rattle.recorded.specs.Writing.{RecordWriting}
+use Rattle.recorded.proofs.Unique.{planned-sound}
 use Rattle.demands.specs.Dwell.{beforeDwell, DwellOver}
 use Rattle.demands.specs.Owed.{PlannedAs}
 use Rattle.demands.proofs.Demands.{plan-refused-exactly, house-refused-exactly, list-refused-exactly}

@@ -35,13 +35,13 @@ use Rattle.path.specs.declared.Housed.the-variants.{Nodes}
 use Rattle.planner.specs.declared.Planned.the-variants.{Cost}
 use Rattle.writer.specs.declared.Written.the-variants.{Bytes}
 use Rattle.writer.specs.Writing.{saidWritten, Writing}
-use Rattle.jobs.specs.Job.{recordJob}
-use Rattle.jobs.specs.Reading.{LentShort, ReadLeft}
-use Rattle.jobs.specs.Planning.{tickOf, RecordPlanning}
-use Rattle.jobs.specs.Asking.{HouseOfRecords, ListOfRecords}
-use Rattle.jobs.specs.Writing.{RecordWriting}
-use Rattle.jobs.proofs.Unique.{planned-sound}
-use Rattle.jobs.proofs.PathAnswers.{house-shortest, sound-shortest}
+use Rattle.recorded.specs.Job.{recordJob}
+use Rattle.recorded.specs.Reading.{LentShort, ReadLeft}
+use Rattle.recorded.specs.Planning.{tickOf, RecordPlanning}
+use Rattle.recorded.specs.Asking.{HouseOfRecords, ListOfRecords}
+use Rattle.recorded.specs.Writing.{RecordWriting}
+use Rattle.recorded.proofs.Unique.{planned-sound}
+use Rattle.recorded.proofs.PathAnswers.{house-shortest, sound-shortest}
 use Rattle.demands.specs.Owed.{PlannedAs}
 use Rattle.demands.proofs.Demands.{list-refused-exactly}
 use Rattle.demands.proofs.Written.{numbers-come-back, job-comes-back}

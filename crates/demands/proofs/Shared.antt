@@ -58,9 +58,9 @@ use Rattle.path.specs.Paths.{saidHoused}
 use Rattle.planner.specs.declared.Planned.{Planned}
 use Rattle.planner.specs.declared.Planned.the-variants.{Cost}
 use Rattle.planner.specs.Planning.{saidPlanned}
-use Rattle.jobs.specs.Job.{recordJob}
-use Rattle.jobs.specs.Planning.{recordQuestion, tickOf, RecordPlanning}
-use Rattle.jobs.proofs.Unique.{planned-sound}
+use Rattle.recorded.specs.Job.{recordJob}
+use Rattle.recorded.specs.Planning.{recordQuestion, tickOf, RecordPlanning}
+use Rattle.recorded.proofs.Unique.{planned-sound}
 use Rattle.report.specs.Printed.{REFUSED, planText, refusedText}
 use Rattle.demands.specs.Owed.{RefusedFor, at-line, no-walk, PlannedAs, Owed, refusal, schedule}
 use Rattle.demands.proofs.Demands.{plan-accepted-exactly, accepted-safe}

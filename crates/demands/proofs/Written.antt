@@ -56,10 +56,10 @@ use Rattle.writer.specs.declared.Written.{Written}
 use Rattle.writer.specs.declared.Written.the-variants.{Bytes}
 use Rattle.writer.specs.Writing.{saidWritten, Writing}
 use Rattle.writer.proofs.Unique.{writing-unique}
-use Rattle.jobs.specs.Job.{recordJob}
-use Rattle.jobs.specs.Reading.{LentShort, ReadLeft, jobRead}
-use Rattle.jobs.specs.Writing.{RecordWriting}
-use Rattle.jobs.proofs.Unique.{write-unique}
+use Rattle.recorded.specs.Job.{recordJob}
+use Rattle.recorded.specs.Reading.{LentShort, ReadLeft, jobRead}
+use Rattle.recorded.specs.Writing.{RecordWriting}
+use Rattle.recorded.proofs.Unique.{write-unique}
 use Rattle.demands.proofs.Demands.{accepted-exactly, accepted-text-written}
 
 -- ---- writing, from its promise

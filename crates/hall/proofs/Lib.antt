@@ -6,7 +6,6 @@
 --     refusals      Numbers, Stages, Moves, Compose, Places, Crowded, StageTests, FaultTests, Complete,
 --                   Sound, WellFormed, Writing
 --     plans         Demand, Shared, PlanLaws, DwellLimits, Exist, Summit
---     P1 to P11     JobTests, Cases, CaseRemarks, Outcomes
 pub mod Ints
 pub mod Walks
 pub mod Lists
@@ -45,7 +44,3 @@ pub mod WellFormed
 pub mod Writing
 pub mod Summit
 pub mod Answers
-pub mod JobTests
-pub mod Outcomes
-pub mod Cases
-pub mod CaseRemarks

@@ -16,4 +16,3 @@ pub mod Path
 pub mod Plan
 pub mod Safety
 pub mod NoDwell
-pub mod Case

@@ -3,85 +3,37 @@
 // carrier's path. Each takes every input. These functions are thin: all but reading carry the records to a
 // local list of numbers, each asks a function on numbers, and reading and planning write its answer into the
 // records; the others only read them. The functions on numbers decide what is answered and how many records
-// are written.
+// are written: they stand in crate `recorded`, with what is promised here.
 //
-// Working memory here: 260 bytes for the moves of at most 65 records (loaded.rt says why 65), 384 for the
+// Working memory here: 260 bytes for the moves of at most 65 records (`recorded` says why 65), 384 for the
 // distances and ticks of 64.
-ghost use mathlib.Core.Path.{_≡_};
 ghost use denote.Ref.{now};
 ghost use Rattle.hall.specs.Floor.{networkOf};
-ghost use Rattle.reader.specs.Reading.{saidRead};
-ghost use Rattle.jobs.specs.Reading.{ReadLeft};
-ghost use Rattle.jobs.specs.Writing.{RecordWriting};
-ghost use Rattle.jobs.specs.Planning.{RecordPlanning};
-ghost use Rattle.jobs.specs.Asking.{HouseOfRecords, ListOfRecords};
-ghost use Rattle.jobs.specs.Loading.{Beside, Placing, storedCount};
-use crate::loaded::LOADED_NUMBERS;
-use crate::loaded::house_loaded;
-use crate::loaded::judge_loaded;
-use crate::loaded::plan_loaded;
-use crate::loaded::write_loaded;
+ghost use Rattle.recorded.specs.Reading.{ReadLeft};
+ghost use Rattle.recorded.specs.Writing.{RecordWriting};
+ghost use Rattle.recorded.specs.Planning.{RecordPlanning};
+ghost use Rattle.recorded.specs.Asking.{HouseOfRecords, ListOfRecords};
 use hall::Carrier;
 use hall::Checked;
-use hall::Fault;
 use hall::Job;
-use hall::Refusal;
 use path::Housed;
 use planner::Planned;
 use reader::Read;
-use reader::read_numbers;
+use recorded::LOADED_NUMBERS;
+use recorded::house_loaded;
+use recorded::judge_loaded;
+use recorded::placed_count;
+use recorded::plan_loaded;
+use recorded::read_beside;
+use recorded::stored_count;
+use recorded::write_loaded;
 use records::Record;
 use records::load_moves;
 use records::store_moves;
 use records::store_times;
 use writer::Written;
 
-mod loaded;
-
 // ---- reading
-
-// Reads a text into numbers, beside a list of so many records, which has its own least length.
-fn read_beside(
-    text: &[u8],
-    lanes: &mut [u16],
-    closed: &mut [u16],
-    records: usize,
-    moves: &mut [u16],
-    order: &mut [u16],
-) -> Read
-    ensures { λ r. ⌜ Beside
-        (now (text .entry))
-        (now (lanes .entry)) (now (closed .entry)) records (now (moves .entry)) (now (order .entry))
-        (now (lanes .exit)) (now (closed .exit)) (now (moves .exit)) (now (order .exit))
-        (saidRead r) ⌝ }
-{
-    if records < Job::CARRIERS {
-        return Read::Refused(Refusal {
-            fault: Fault::ShortTable,
-            place: 0,
-        });
-    }
-    read_numbers(text, lanes, closed, moves, order)
-}
-
-// How many records reading writes, by the lengths of the lent tables: none if one of them is too short.
-fn placed_count(lanes: usize, closed: usize, records: usize, order: usize) -> usize
-    ensures { λ r. ⌜ Placing lanes closed records order r ⌝ }
-{
-    if lanes < Job::LANE_NUMBERS {
-        return 0;
-    }
-    if closed < Job::NODES {
-        return 0;
-    }
-    if records < Job::CARRIERS {
-        return 0;
-    }
-    if order < Job::CARRIERS {
-        return 0;
-    }
-    Job::CARRIERS
-}
 
 // Reads a job text: the lanes' numbers go to `lanes`, the closed nodes to `closed`, the carriers' starts and
 // goals to the first 64 `records`, with distance and tick 0, the order to `order`. The counts and the dwell
@@ -144,16 +96,6 @@ pub fn write_job(
 }
 
 // ---- planning
-
-// How many of `records` records planning writes: none after a refusal.
-fn stored_count(answer: Planned, records: usize) -> usize
-    ensures { λ r. ⌜ r ≡ storedCount answer records ⌝ }
-{
-    match answer {
-        Planned::Cost(_) => records,
-        Planned::Refused(_) => 0,
-    }
-}
 
 // Plans a job: fills the distance table and, in the records, each carrier's distance and start tick; answers
 // the cost, or the first refusal.

@@ -14,7 +14,7 @@ use Rattle.reader.specs.declared.Read.{Read}
 use Rattle.path.specs.declared.Housed.{Housed}
 use Rattle.planner.specs.declared.Planned.{Planned}
 use Rattle.writer.specs.declared.Written.{Written}
-use Rattle.jobs.proofs.Unique.{read-job-unique, plan-unique, house-unique, judge-unique, write-unique}
+use Rattle.recorded.proofs.Unique.{read-job-unique, plan-unique, house-unique, judge-unique, write-unique}
 use Rattle.lent.specs.Lent.{frontOf, backOf, toldTo, Lending}
 use Rattle.lent.specs.Lent.{LentReading, LentPlanning, LentHouse, LentList, LentWriting}
 

@@ -30,10 +30,10 @@ use Rattle.reader.specs.declared.Read.{Read}
 use Rattle.path.specs.declared.Housed.{Housed}
 use Rattle.planner.specs.declared.Planned.{Planned}
 use Rattle.writer.specs.declared.Written.{Written}
-use Rattle.jobs.specs.Reading.{ReadLeft}
-use Rattle.jobs.specs.Planning.{RecordPlanning}
-use Rattle.jobs.specs.Asking.{HouseOfRecords, ListOfRecords}
-use Rattle.jobs.specs.Writing.{RecordWriting}
+use Rattle.recorded.specs.Reading.{ReadLeft}
+use Rattle.recorded.specs.Planning.{RecordPlanning}
+use Rattle.recorded.specs.Asking.{HouseOfRecords, ListOfRecords}
+use Rattle.recorded.specs.Writing.{RecordWriting}
 
 abbrev pub lendable : ℕ
 lendable = 80

@@ -15,11 +15,11 @@ use mathlib.Core.List.{List, [], _∷_}
 use Prim.Native.Nat.{ℕ, zero, suc, _+_, _*_, _≤_, _<_}
 use native.Mathlib.Omega.{arith}
 use lib.ListN.{getD}
-use Rattle.hall.specs.Case.{Accepted, cases, dwell-cases, line5}
+use Rattle.cases.specs.Case.{Accepted, cases, dwell-cases, line5}
 use Rattle.hall.specs.Floor.{Walk, here, step, Lane, floor}
 use Rattle.hall.specs.Job.{Numbers, jobOf, start, goal}
 use Rattle.hall.specs.Ticks.{own, total}
-use Rattle.hall.proofs.Cases.{all-cases, all-dwell-cases}
+use Rattle.cases.proofs.Cases.{all-cases, all-dwell-cases}
 use Rattle.hall.proofs.Walks.{reverse, true-distance, lanes-symmetric}
 use Rattle.put.specs.Digits.{digitsUpTo, digits}
 use Rattle.form.specs.Lines.{further, entryLine, countLine}

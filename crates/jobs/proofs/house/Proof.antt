@@ -53,9 +53,9 @@ use Rattle.records.specs.Table.{moved}
 use Rattle.records.proofs.Laws.{moved-length}
 use Rattle.hall.specs.Floor.{networkOf}
 use Rattle.hall.specs.Job.{jobOf}
-use Rattle.jobs.specs.Asking.{HouseGiven, HouseOfRecords}
-use Rattle.jobs.specs.Loading.{loaded}
-use Rattle.jobs.proofs.AskRecords.{records-housed}
+use Rattle.recorded.specs.Asking.{HouseGiven, HouseOfRecords}
+use Rattle.recorded.specs.Loading.{loaded}
+use Rattle.recorded.proofs.AskRecords.{records-housed}
 use Rattle.path.proofs.Housed as H₀
 use Rattle.path.proofs.Housed.Laws as H₀′
 use Rattle.records.proofs.Record as T
@@ -65,10 +65,10 @@ use Rattle.records.proofs.load_moves as load-moves
 use Rattle.records.proofs.load_moves.Symbol as load-moves-def
 use Rattle.records.proofs.load_moves.Symbol.{name as #records·load-moves}
 use Rattle.records.proofs.load_moves.Met as load-moves-thm
-use Rattle.jobs.proofs.loaded.house_loaded as house-loaded
-use Rattle.jobs.proofs.loaded.house_loaded.Symbol as house-loaded-def
-use Rattle.jobs.proofs.loaded.house_loaded.Symbol.{name as #jobs·loaded·house-loaded}
-use Rattle.jobs.proofs.loaded.house_loaded.Met as house-loaded-thm
+use Rattle.recorded.proofs.house_loaded as house-loaded
+use Rattle.recorded.proofs.house_loaded.Symbol as house-loaded-def
+use Rattle.recorded.proofs.house_loaded.Symbol.{name as #recorded·house-loaded}
+use Rattle.recorded.proofs.house_loaded.Met as house-loaded-thm
 use Rattle.jobs.proofs.house.Key.{name as #jobs·house}
 use Rattle.jobs.proofs.house as f
 use Rattle.jobs.proofs.house.Statement as stated
@@ -132,7 +132,7 @@ module _ {M : Type 1} (𝓤 : URA M) (H : Heap 𝓤) (A : Atoms 𝓤) (W : Given
       keep ! (9 ∷ 7 ∷ 5 ∷ 3 ∷ 1 ∷ 8 ∷ []) $ nothing ! $ move ! (1 ∷ 0 ∷ []) $ join ! $ move ! (1 ∷ 0 ∷ []) $ join ! $ move ! (1 ∷ 0 ∷ []) $ join ! $ move ! (1 ∷ 0 ∷ []) $ join ! $ move ! (1 ∷ 0 ∷ []) $ join ! $ frame ! $
       nothing ! $ adds ! $ nothing ! $ fjoin ! $ nothing ! $ fjoin ! $ nothing ! $ fjoin ! $ nothing ! $ fjoin ! $ nothing ! $ fjoin ! $ nothing ! $ fjoin ! $ nothing ! $ fjoin ! $ frame ! $ owned ! H₀.the-row (Is H₀.the-row) (EL.makes H₀.the-type H₀′.the-plain 𝓤 H A) r (v ∷ []) is $ done !
 
-  module _ (𝓣 : Tables 𝓤 H) (known-load-moves : Triple 𝓤 (𝓣 .C #records·load-moves) (tripleOf 𝓤 H A load-moves.signature (load-moves.spec 𝓤 H A mem run))) (known-house-loaded : Triple 𝓤 (𝓣 .C #jobs·loaded·house-loaded) (tripleOf 𝓤 H A house-loaded.signature (house-loaded.spec 𝓤 H A mem run))) where
+  module _ (𝓣 : Tables 𝓤 H) (known-load-moves : Triple 𝓤 (𝓣 .C #records·load-moves) (tripleOf 𝓤 H A load-moves.signature (load-moves.spec 𝓤 H A mem run))) (known-house-loaded : Triple 𝓤 (𝓣 .C #recorded·house-loaded) (tripleOf 𝓤 H A house-loaded.signature (house-loaded.spec 𝓤 H A mem run))) where
     walk : ent 𝓤 (onEntry 𝓤 H A f.signature (κ₀, (κ₁, (κ₂, (κ₃, (κ₄, tt))))) (q₀, (q₁, (q₂, (q₃, (q₄, tt))))) a at) (WpFn 𝓤 H (𝓣 .C) (𝓣 .Λ) code.function (vint w64 x₁ ∷ mv₀ ∷ mv₁ ∷ mv₂ ∷ mv₃ ∷ vint w64 x₆ ∷ v₇ ∷ mv₄ ∷ []) Post)
     walk =
         let fm = fmOf 𝓤 H (W .laws) 𝓣 in
@@ -181,7 +181,7 @@ module _ {M : Type 1} (𝓤 : URA M) (H : Heap 𝓤) (A : Atoms 𝓤) (W : Given
         returns ! (look ! 44 refl) $ frees-all ! 10 (some _ ∷ some _ ∷ some _ ∷ some _ ∷ some _ ∷ some _ ∷ some _ ∷ some _ ∷ some _ ∷ some _ ∷ some _ ∷ some _ ∷ some _ ∷ some _ ∷ some _ ∷ some _ ∷ some _ ∷ some _ ∷ []) refl $
         by ! (exits r₂ v₂ path₂ is₂ (records-housed (networkOf x₁ lanes closed) records order x₆ (x₇ .0) path path₂ r₂ e₂) (long-path₂)))))))))))))))))))))))))))
 
-module _ {M : Type 1} (𝓤 : URA M) (H : Heap 𝓤) (A : Atoms 𝓤) (W : Given 𝓤 H A) (mem : Memory → SProp 𝓤) (run : Routine → Fun 𝓤) (𝓣 : Tables 𝓤 H) (known-load-moves : Triple 𝓤 (𝓣 .C #records·load-moves) (tripleOf 𝓤 H A load-moves.signature (load-moves.spec 𝓤 H A mem run))) (known-house-loaded : Triple 𝓤 (𝓣 .C #jobs·loaded·house-loaded) (tripleOf 𝓤 H A house-loaded.signature (house-loaded.spec 𝓤 H A mem run))) where
+module _ {M : Type 1} (𝓤 : URA M) (H : Heap 𝓤) (A : Atoms 𝓤) (W : Given 𝓤 H A) (mem : Memory → SProp 𝓤) (run : Routine → Fun 𝓤) (𝓣 : Tables 𝓤 H) (known-load-moves : Triple 𝓤 (𝓣 .C #records·load-moves) (tripleOf 𝓤 H A load-moves.signature (load-moves.spec 𝓤 H A mem run))) (known-house-loaded : Triple 𝓤 (𝓣 .C #recorded·house-loaded) (tripleOf 𝓤 H A house-loaded.signature (house-loaded.spec 𝓤 H A mem run))) where
   walks : Walks 𝓤 H A f.ended stayed (WpFn 𝓤 H (𝓣 .C) (𝓣 .Λ) code.function) (f.clauses 𝓤 H A mem run)
   walks = walked 𝓤 H A f.ended stayed (f.clauses 𝓤 H A mem run) (WpFn 𝓤 H (𝓣 .C) (𝓣 .Λ) code.function) (λ κs. (uint-vals w64, (slice-vals, (slice-vals, (slice-vals, (slice-vals, (uint-vals w64, (LL.vals C₂.the-type C₂′.the-laws, (slice-vals, tt)))))))))
       (λ κs. (uint-tells w64, (shr-slice-tells (named 0) (κs .0) u16, (shr-slice-tells (named 1) (κs .1 .0) u16, (shr-slice-tells (named 2) (κs .1 .1 .0) T.the-row, (shr-slice-tells (named 3) (κs .1 .1 .1 .0) u16, (uint-tells w64, (LL.tells C₂.the-type C₂′.the-laws, (mut-slice-tells (named 4) (κs .1 .1 .1 .1 .0) u16, tt)))))))))
@@ -201,4 +201,4 @@ house-spec 𝓤 H 𝓜 𝓖 𝓡 =
     (tables 𝓤 H 𝓜 𝓡 code.env .C) (tables 𝓤 H 𝓜 𝓡 code.env .Λ) #jobs·house code.function (code.unfolded 𝓤 H 𝓜 𝓡)
     (meets 𝓤 H (𝓖 .A) (givenOf 𝓤 H 𝓜 𝓖) (𝓜 .mem) (𝓡 .run) (tablesOf 𝓤 H 𝓜 (tables 𝓤 H 𝓜 𝓡 code.env))
     (cited 𝓤 H (tripleOf 𝓤 H (𝓖 .A) load-moves.signature (load-moves.spec 𝓤 H (𝓖 .A) (𝓜 .mem) (𝓡 .run))) 𝓜 𝓡 code.env #records·load-moves load-moves-def.routine code.calls-records·load-moves (load-moves-thm.met 𝓤 H 𝓜 𝓖 𝓡))
-    (cited 𝓤 H (tripleOf 𝓤 H (𝓖 .A) house-loaded.signature (house-loaded.spec 𝓤 H (𝓖 .A) (𝓜 .mem) (𝓡 .run))) 𝓜 𝓡 code.env #jobs·loaded·house-loaded house-loaded-def.routine code.calls-jobs·loaded·house-loaded (house-loaded-thm.met 𝓤 H 𝓜 𝓖 𝓡)))
+    (cited 𝓤 H (tripleOf 𝓤 H (𝓖 .A) house-loaded.signature (house-loaded.spec 𝓤 H (𝓖 .A) (𝓜 .mem) (𝓡 .run))) 𝓜 𝓡 code.env #recorded·house-loaded house-loaded-def.routine code.calls-recorded·house-loaded (house-loaded-thm.met 𝓤 H 𝓜 𝓖 𝓡)))

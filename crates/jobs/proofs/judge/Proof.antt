@@ -53,9 +53,9 @@ use Rattle.records.specs.Table.{moved}
 use Rattle.records.proofs.Laws.{moved-length}
 use Rattle.hall.specs.Floor.{networkOf}
 use Rattle.hall.specs.Job.{jobOf}
-use Rattle.jobs.specs.Asking.{ListGiven, ListOfRecords}
-use Rattle.jobs.specs.Loading.{loaded}
-use Rattle.jobs.proofs.AskRecords.{records-judged}
+use Rattle.recorded.specs.Asking.{ListGiven, ListOfRecords}
+use Rattle.recorded.specs.Loading.{loaded}
+use Rattle.recorded.proofs.AskRecords.{records-judged}
 use Rattle.hall.proofs.Checked as C₀
 use Rattle.hall.proofs.Checked.Laws as C₀′
 use Rattle.records.proofs.Record as T
@@ -65,10 +65,10 @@ use Rattle.records.proofs.load_moves as load-moves
 use Rattle.records.proofs.load_moves.Symbol as load-moves-def
 use Rattle.records.proofs.load_moves.Symbol.{name as #records·load-moves}
 use Rattle.records.proofs.load_moves.Met as load-moves-thm
-use Rattle.jobs.proofs.loaded.judge_loaded as judge-loaded
-use Rattle.jobs.proofs.loaded.judge_loaded.Symbol as judge-loaded-def
-use Rattle.jobs.proofs.loaded.judge_loaded.Symbol.{name as #jobs·loaded·judge-loaded}
-use Rattle.jobs.proofs.loaded.judge_loaded.Met as judge-loaded-thm
+use Rattle.recorded.proofs.judge_loaded as judge-loaded
+use Rattle.recorded.proofs.judge_loaded.Symbol as judge-loaded-def
+use Rattle.recorded.proofs.judge_loaded.Symbol.{name as #recorded·judge-loaded}
+use Rattle.recorded.proofs.judge_loaded.Met as judge-loaded-thm
 use Rattle.jobs.proofs.judge.Key.{name as #jobs·judge}
 use Rattle.jobs.proofs.judge as f
 use Rattle.jobs.proofs.judge.Statement as stated
@@ -132,7 +132,7 @@ module _ {M : Type 1} (𝓤 : URA M) (H : Heap 𝓤) (A : Atoms 𝓤) (W : Given
       keep ! (9 ∷ 7 ∷ 5 ∷ 3 ∷ 1 ∷ []) $ nothing ! $ move ! (1 ∷ 0 ∷ []) $ join ! $ move ! (1 ∷ 0 ∷ []) $ join ! $ move ! (1 ∷ 0 ∷ []) $ join ! $ move ! (1 ∷ 0 ∷ []) $ join ! $ move ! (1 ∷ 0 ∷ []) $ join ! $ frame ! $
       nothing ! $ nothing ! $ fjoin ! $ nothing ! $ fjoin ! $ nothing ! $ fjoin ! $ nothing ! $ fjoin ! $ nothing ! $ fjoin ! $ nothing ! $ fjoin ! $ nothing ! $ fjoin ! $ nothing ! $ fjoin ! $ frame ! $ owned ! C₀.the-row (Is C₀.the-row) (EL.makes C₀.the-type C₀′.the-plain 𝓤 H A) r (v ∷ []) is $ done !
 
-  module _ (𝓣 : Tables 𝓤 H) (known-load-moves : Triple 𝓤 (𝓣 .C #records·load-moves) (tripleOf 𝓤 H A load-moves.signature (load-moves.spec 𝓤 H A mem run))) (known-judge-loaded : Triple 𝓤 (𝓣 .C #jobs·loaded·judge-loaded) (tripleOf 𝓤 H A judge-loaded.signature (judge-loaded.spec 𝓤 H A mem run))) where
+  module _ (𝓣 : Tables 𝓤 H) (known-load-moves : Triple 𝓤 (𝓣 .C #records·load-moves) (tripleOf 𝓤 H A load-moves.signature (load-moves.spec 𝓤 H A mem run))) (known-judge-loaded : Triple 𝓤 (𝓣 .C #recorded·judge-loaded) (tripleOf 𝓤 H A judge-loaded.signature (judge-loaded.spec 𝓤 H A mem run))) where
     walk : ent 𝓤 (onEntry 𝓤 H A f.signature (κ₀, (κ₁, (κ₂, (κ₃, (κ₄, tt))))) (q₀, (q₁, (q₂, (q₃, (q₄, tt))))) a at) (WpFn 𝓤 H (𝓣 .C) (𝓣 .Λ) code.function (vint w64 x₁ ∷ mv₀ ∷ mv₁ ∷ mv₂ ∷ mv₃ ∷ vint w64 x₆ ∷ v₇ ∷ mv₄ ∷ []) Post)
     walk =
         let fm = fmOf 𝓤 H (W .laws) 𝓣 in
@@ -177,7 +177,7 @@ module _ {M : Type 1} (𝓤 : URA M) (H : Heap 𝓤) (A : Atoms 𝓤) (W : Given
         returns ! (look ! 40 refl) $ frees-all ! 10 (some _ ∷ some _ ∷ some _ ∷ some _ ∷ some _ ∷ some _ ∷ some _ ∷ some _ ∷ some _ ∷ some _ ∷ some _ ∷ some _ ∷ some _ ∷ some _ ∷ some _ ∷ some _ ∷ []) refl $
         by ! (exits r₂ v₂ is₂ (records-judged (networkOf x₁ lanes closed) records order x₆ (x₇ .0) list r₂ e₂)))))))))))))))))))))))
 
-module _ {M : Type 1} (𝓤 : URA M) (H : Heap 𝓤) (A : Atoms 𝓤) (W : Given 𝓤 H A) (mem : Memory → SProp 𝓤) (run : Routine → Fun 𝓤) (𝓣 : Tables 𝓤 H) (known-load-moves : Triple 𝓤 (𝓣 .C #records·load-moves) (tripleOf 𝓤 H A load-moves.signature (load-moves.spec 𝓤 H A mem run))) (known-judge-loaded : Triple 𝓤 (𝓣 .C #jobs·loaded·judge-loaded) (tripleOf 𝓤 H A judge-loaded.signature (judge-loaded.spec 𝓤 H A mem run))) where
+module _ {M : Type 1} (𝓤 : URA M) (H : Heap 𝓤) (A : Atoms 𝓤) (W : Given 𝓤 H A) (mem : Memory → SProp 𝓤) (run : Routine → Fun 𝓤) (𝓣 : Tables 𝓤 H) (known-load-moves : Triple 𝓤 (𝓣 .C #records·load-moves) (tripleOf 𝓤 H A load-moves.signature (load-moves.spec 𝓤 H A mem run))) (known-judge-loaded : Triple 𝓤 (𝓣 .C #recorded·judge-loaded) (tripleOf 𝓤 H A judge-loaded.signature (judge-loaded.spec 𝓤 H A mem run))) where
   walks : Walks 𝓤 H A f.ended stayed (WpFn 𝓤 H (𝓣 .C) (𝓣 .Λ) code.function) (f.clauses 𝓤 H A mem run)
   walks = walked 𝓤 H A f.ended stayed (f.clauses 𝓤 H A mem run) (WpFn 𝓤 H (𝓣 .C) (𝓣 .Λ) code.function) (λ κs. (uint-vals w64, (slice-vals, (slice-vals, (slice-vals, (slice-vals, (uint-vals w64, (LL.vals C₂.the-type C₂′.the-laws, (slice-vals, tt)))))))))
       (λ κs. (uint-tells w64, (shr-slice-tells (named 0) (κs .0) u16, (shr-slice-tells (named 1) (κs .1 .0) u16, (shr-slice-tells (named 2) (κs .1 .1 .0) T.the-row, (shr-slice-tells (named 3) (κs .1 .1 .1 .0) u16, (uint-tells w64, (LL.tells C₂.the-type C₂′.the-laws, (shr-slice-tells (named 4) (κs .1 .1 .1 .1 .0) u16, tt)))))))))
@@ -197,4 +197,4 @@ judge-spec 𝓤 H 𝓜 𝓖 𝓡 =
     (tables 𝓤 H 𝓜 𝓡 code.env .C) (tables 𝓤 H 𝓜 𝓡 code.env .Λ) #jobs·judge code.function (code.unfolded 𝓤 H 𝓜 𝓡)
     (meets 𝓤 H (𝓖 .A) (givenOf 𝓤 H 𝓜 𝓖) (𝓜 .mem) (𝓡 .run) (tablesOf 𝓤 H 𝓜 (tables 𝓤 H 𝓜 𝓡 code.env))
     (cited 𝓤 H (tripleOf 𝓤 H (𝓖 .A) load-moves.signature (load-moves.spec 𝓤 H (𝓖 .A) (𝓜 .mem) (𝓡 .run))) 𝓜 𝓡 code.env #records·load-moves load-moves-def.routine code.calls-records·load-moves (load-moves-thm.met 𝓤 H 𝓜 𝓖 𝓡))
-    (cited 𝓤 H (tripleOf 𝓤 H (𝓖 .A) judge-loaded.signature (judge-loaded.spec 𝓤 H (𝓖 .A) (𝓜 .mem) (𝓡 .run))) 𝓜 𝓡 code.env #jobs·loaded·judge-loaded judge-loaded-def.routine code.calls-jobs·loaded·judge-loaded (judge-loaded-thm.met 𝓤 H 𝓜 𝓖 𝓡)))
+    (cited 𝓤 H (tripleOf 𝓤 H (𝓖 .A) judge-loaded.signature (judge-loaded.spec 𝓤 H (𝓖 .A) (𝓜 .mem) (𝓡 .run))) 𝓜 𝓡 code.env #recorded·judge-loaded judge-loaded-def.routine code.calls-recorded·judge-loaded (judge-loaded-thm.met 𝓤 H 𝓜 𝓖 𝓡)))

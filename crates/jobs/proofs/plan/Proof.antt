@@ -52,9 +52,9 @@ use Rattle.records.proofs.Laws.{moved-length}
 use Rattle.hall.specs.Floor.{networkOf}
 use Rattle.hall.specs.Job.{jobOf}
 use Rattle.planner.specs.Planning.{saidPlanned, lent, Planning}
-use Rattle.jobs.specs.Planning.{RecordPlanning}
-use Rattle.jobs.specs.Loading.{loaded, storedCount}
-use Rattle.jobs.proofs.PlanRecords.{records-planned}
+use Rattle.recorded.specs.Planning.{RecordPlanning}
+use Rattle.recorded.specs.Loading.{loaded, storedCount}
+use Rattle.recorded.proofs.PlanRecords.{records-planned}
 use Rattle.planner.proofs.Planned as P₀
 use Rattle.planner.proofs.Planned.Laws as P₀′
 use Rattle.records.proofs.Record as T
@@ -62,14 +62,14 @@ use Rattle.records.proofs.load_moves as load-moves
 use Rattle.records.proofs.load_moves.Symbol as load-moves-def
 use Rattle.records.proofs.load_moves.Symbol.{name as #records·load-moves}
 use Rattle.records.proofs.load_moves.Met as load-moves-thm
-use Rattle.jobs.proofs.loaded.plan_loaded as plan-loaded
-use Rattle.jobs.proofs.loaded.plan_loaded.Symbol as plan-loaded-def
-use Rattle.jobs.proofs.loaded.plan_loaded.Symbol.{name as #jobs·loaded·plan-loaded}
-use Rattle.jobs.proofs.loaded.plan_loaded.Met as plan-loaded-thm
-use Rattle.jobs.proofs.stored_count as stored-count
-use Rattle.jobs.proofs.stored_count.Symbol as stored-count-def
-use Rattle.jobs.proofs.stored_count.Symbol.{name as #jobs·stored-count}
-use Rattle.jobs.proofs.stored_count.Met as stored-count-thm
+use Rattle.recorded.proofs.plan_loaded as plan-loaded
+use Rattle.recorded.proofs.plan_loaded.Symbol as plan-loaded-def
+use Rattle.recorded.proofs.plan_loaded.Symbol.{name as #recorded·plan-loaded}
+use Rattle.recorded.proofs.plan_loaded.Met as plan-loaded-thm
+use Rattle.recorded.proofs.stored_count as stored-count
+use Rattle.recorded.proofs.stored_count.Symbol as stored-count-def
+use Rattle.recorded.proofs.stored_count.Symbol.{name as #recorded·stored-count}
+use Rattle.recorded.proofs.stored_count.Met as stored-count-thm
 use Rattle.records.proofs.store_times as store-times
 use Rattle.records.proofs.store_times.Symbol as store-times-def
 use Rattle.records.proofs.store_times.Symbol.{name as #records·store-times}
@@ -155,7 +155,7 @@ module _ {M : Type 1} (𝓤 : URA M) (H : Heap 𝓤) (A : Atoms 𝓤) (W : Given
       keep ! (9 ∷ 7 ∷ 5 ∷ 3 ∷ 1 ∷ 8 ∷ 4 ∷ []) $ nothing ! $ move ! (1 ∷ 0 ∷ []) $ join ! $ move ! (1 ∷ 0 ∷ []) $ join ! $ move ! (1 ∷ 0 ∷ []) $ join ! $ move ! (1 ∷ 0 ∷ []) $ join ! $ move ! (1 ∷ 0 ∷ []) $ join ! $ frame ! $
       nothing ! $ adds ! $ nothing ! $ fjoin ! $ nothing ! $ fjoin ! $ adds ! $ nothing ! $ fjoin ! $ nothing ! $ fjoin ! $ nothing ! $ fjoin ! $ frame ! $ owned ! P₀.the-row (Is P₀.the-row) (EL.makes P₀.the-type P₀′.the-plain 𝓤 H A) r (v ∷ []) is $ done !
 
-  module _ (𝓣 : Tables 𝓤 H) (known-load-moves : Triple 𝓤 (𝓣 .C #records·load-moves) (tripleOf 𝓤 H A load-moves.signature (load-moves.spec 𝓤 H A mem run))) (known-plan-loaded : Triple 𝓤 (𝓣 .C #jobs·loaded·plan-loaded) (tripleOf 𝓤 H A plan-loaded.signature (plan-loaded.spec 𝓤 H A mem run))) (known-stored-count : Triple 𝓤 (𝓣 .C #jobs·stored-count) (tripleOf 𝓤 H A stored-count.signature (stored-count.spec 𝓤 H A mem run))) (known-store-times : Triple 𝓤 (𝓣 .C #records·store-times) (tripleOf 𝓤 H A store-times.signature (store-times.spec 𝓤 H A mem run))) where
+  module _ (𝓣 : Tables 𝓤 H) (known-load-moves : Triple 𝓤 (𝓣 .C #records·load-moves) (tripleOf 𝓤 H A load-moves.signature (load-moves.spec 𝓤 H A mem run))) (known-plan-loaded : Triple 𝓤 (𝓣 .C #recorded·plan-loaded) (tripleOf 𝓤 H A plan-loaded.signature (plan-loaded.spec 𝓤 H A mem run))) (known-stored-count : Triple 𝓤 (𝓣 .C #recorded·stored-count) (tripleOf 𝓤 H A stored-count.signature (stored-count.spec 𝓤 H A mem run))) (known-store-times : Triple 𝓤 (𝓣 .C #records·store-times) (tripleOf 𝓤 H A store-times.signature (store-times.spec 𝓤 H A mem run))) where
     walk : ent 𝓤 (onEntry 𝓤 H A f.signature (κ₀, (κ₁, (κ₂, (κ₃, (κ₄, tt))))) (q₀, (q₁, (q₂, (q₃, (q₄, tt))))) a at) (WpFn 𝓤 H (𝓣 .C) (𝓣 .Λ) code.function (vint w64 x₁ ∷ mv₀ ∷ mv₁ ∷ mv₂ ∷ mv₃ ∷ vint w64 x₆ ∷ mv₄ ∷ []) Post)
     walk =
         let fm = fmOf 𝓤 H (W .laws) 𝓣 in
@@ -244,7 +244,7 @@ module _ {M : Type 1} (𝓤 : URA M) (H : Heap 𝓤) (A : Atoms 𝓤) (W : Given
         returns ! (look ! 74 refl) $ frees-all ! 10 (some _ ∷ some _ ∷ some _ ∷ some _ ∷ some _ ∷ some _ ∷ some _ ∷ some _ ∷ some _ ∷ some _ ∷ some _ ∷ some _ ∷ some _ ∷ some _ ∷ some _ ∷ some _ ∷ some _ ∷ some _ ∷ some _ ∷ some _ ∷ some _ ∷ some _ ∷ some _ ∷ some _ ∷ some _ ∷ some _ ∷ some _ ∷ some _ ∷ some _ ∷ some _ ∷ some _ ∷ some _ ∷ some _ ∷ []) refl $
         by ! (exits r₂ v₂ records₄ table₂ is₂ (records-planned (networkOf x₁ lanes closed) records order x₆ table table₂ distances₂ ticks₂ records₄ r₂ e₂ (rw e₃ at e₄)) (long-records₄) (long-table₂)))))))))))))))))))))))))))))))))))))))))))))))))))))
 
-module _ {M : Type 1} (𝓤 : URA M) (H : Heap 𝓤) (A : Atoms 𝓤) (W : Given 𝓤 H A) (mem : Memory → SProp 𝓤) (run : Routine → Fun 𝓤) (𝓣 : Tables 𝓤 H) (known-load-moves : Triple 𝓤 (𝓣 .C #records·load-moves) (tripleOf 𝓤 H A load-moves.signature (load-moves.spec 𝓤 H A mem run))) (known-plan-loaded : Triple 𝓤 (𝓣 .C #jobs·loaded·plan-loaded) (tripleOf 𝓤 H A plan-loaded.signature (plan-loaded.spec 𝓤 H A mem run))) (known-stored-count : Triple 𝓤 (𝓣 .C #jobs·stored-count) (tripleOf 𝓤 H A stored-count.signature (stored-count.spec 𝓤 H A mem run))) (known-store-times : Triple 𝓤 (𝓣 .C #records·store-times) (tripleOf 𝓤 H A store-times.signature (store-times.spec 𝓤 H A mem run))) where
+module _ {M : Type 1} (𝓤 : URA M) (H : Heap 𝓤) (A : Atoms 𝓤) (W : Given 𝓤 H A) (mem : Memory → SProp 𝓤) (run : Routine → Fun 𝓤) (𝓣 : Tables 𝓤 H) (known-load-moves : Triple 𝓤 (𝓣 .C #records·load-moves) (tripleOf 𝓤 H A load-moves.signature (load-moves.spec 𝓤 H A mem run))) (known-plan-loaded : Triple 𝓤 (𝓣 .C #recorded·plan-loaded) (tripleOf 𝓤 H A plan-loaded.signature (plan-loaded.spec 𝓤 H A mem run))) (known-stored-count : Triple 𝓤 (𝓣 .C #recorded·stored-count) (tripleOf 𝓤 H A stored-count.signature (stored-count.spec 𝓤 H A mem run))) (known-store-times : Triple 𝓤 (𝓣 .C #records·store-times) (tripleOf 𝓤 H A store-times.signature (store-times.spec 𝓤 H A mem run))) where
   walks : Walks 𝓤 H A f.ended stayed (WpFn 𝓤 H (𝓣 .C) (𝓣 .Λ) code.function) (f.clauses 𝓤 H A mem run)
   walks = walked 𝓤 H A f.ended stayed (f.clauses 𝓤 H A mem run) (WpFn 𝓤 H (𝓣 .C) (𝓣 .Λ) code.function) (λ κs. (uint-vals w64, (slice-vals, (slice-vals, (slice-vals, (slice-vals, (uint-vals w64, (slice-vals, tt))))))))
       (λ κs. (uint-tells w64, (shr-slice-tells (named 0) (κs .0) u16, (shr-slice-tells (named 1) (κs .1 .0) u16, (mut-slice-tells (named 2) (κs .1 .1 .0) T.the-row, (shr-slice-tells (named 3) (κs .1 .1 .1 .0) u16, (uint-tells w64, (mut-slice-tells (named 4) (κs .1 .1 .1 .1 .0) u16, tt))))))))
@@ -264,6 +264,6 @@ plan-spec 𝓤 H 𝓜 𝓖 𝓡 =
     (tables 𝓤 H 𝓜 𝓡 code.env .C) (tables 𝓤 H 𝓜 𝓡 code.env .Λ) #jobs·plan code.function (code.unfolded 𝓤 H 𝓜 𝓡)
     (meets 𝓤 H (𝓖 .A) (givenOf 𝓤 H 𝓜 𝓖) (𝓜 .mem) (𝓡 .run) (tablesOf 𝓤 H 𝓜 (tables 𝓤 H 𝓜 𝓡 code.env))
     (cited 𝓤 H (tripleOf 𝓤 H (𝓖 .A) load-moves.signature (load-moves.spec 𝓤 H (𝓖 .A) (𝓜 .mem) (𝓡 .run))) 𝓜 𝓡 code.env #records·load-moves load-moves-def.routine code.calls-records·load-moves (load-moves-thm.met 𝓤 H 𝓜 𝓖 𝓡))
-    (cited 𝓤 H (tripleOf 𝓤 H (𝓖 .A) plan-loaded.signature (plan-loaded.spec 𝓤 H (𝓖 .A) (𝓜 .mem) (𝓡 .run))) 𝓜 𝓡 code.env #jobs·loaded·plan-loaded plan-loaded-def.routine code.calls-jobs·loaded·plan-loaded (plan-loaded-thm.met 𝓤 H 𝓜 𝓖 𝓡))
-    (cited 𝓤 H (tripleOf 𝓤 H (𝓖 .A) stored-count.signature (stored-count.spec 𝓤 H (𝓖 .A) (𝓜 .mem) (𝓡 .run))) 𝓜 𝓡 code.env #jobs·stored-count stored-count-def.routine code.calls-jobs·stored-count (stored-count-thm.met 𝓤 H 𝓜 𝓖 𝓡))
+    (cited 𝓤 H (tripleOf 𝓤 H (𝓖 .A) plan-loaded.signature (plan-loaded.spec 𝓤 H (𝓖 .A) (𝓜 .mem) (𝓡 .run))) 𝓜 𝓡 code.env #recorded·plan-loaded plan-loaded-def.routine code.calls-recorded·plan-loaded (plan-loaded-thm.met 𝓤 H 𝓜 𝓖 𝓡))
+    (cited 𝓤 H (tripleOf 𝓤 H (𝓖 .A) stored-count.signature (stored-count.spec 𝓤 H (𝓖 .A) (𝓜 .mem) (𝓡 .run))) 𝓜 𝓡 code.env #recorded·stored-count stored-count-def.routine code.calls-recorded·stored-count (stored-count-thm.met 𝓤 H 𝓜 𝓖 𝓡))
     (cited 𝓤 H (tripleOf 𝓤 H (𝓖 .A) store-times.signature (store-times.spec 𝓤 H (𝓖 .A) (𝓜 .mem) (𝓡 .run))) 𝓜 𝓡 code.env #records·store-times store-times-def.routine code.calls-records·store-times (store-times-thm.met 𝓤 H 𝓜 𝓖 𝓡)))

@@ -47,20 +47,20 @@ use Rattle.records.proofs.Arrays.{repeated-is, array-opens, array-shuts, lends-
 use Rattle.reader.specs.declared.Read.{Read}
 use Rattle.records.specs.Table.{placed}
 use Rattle.reader.specs.Reading.{saidRead}
-use Rattle.jobs.specs.Reading.{ReadLeft}
-use Rattle.jobs.specs.Loading.{Beside, Placing}
-use Rattle.jobs.proofs.ReadRecords.{records-read}
+use Rattle.recorded.specs.Reading.{ReadLeft}
+use Rattle.recorded.specs.Loading.{Beside, Placing}
+use Rattle.recorded.proofs.ReadRecords.{records-read}
 use Rattle.reader.proofs.Read as R₀
 use Rattle.reader.proofs.Read.Laws as R₀′
 use Rattle.records.proofs.Record as T
-use Rattle.jobs.proofs.read_beside as read-beside
-use Rattle.jobs.proofs.read_beside.Symbol as read-beside-def
-use Rattle.jobs.proofs.read_beside.Symbol.{name as #jobs·read-beside}
-use Rattle.jobs.proofs.read_beside.Met as read-beside-thm
-use Rattle.jobs.proofs.placed_count as placed-count
-use Rattle.jobs.proofs.placed_count.Symbol as placed-count-def
-use Rattle.jobs.proofs.placed_count.Symbol.{name as #jobs·placed-count}
-use Rattle.jobs.proofs.placed_count.Met as placed-count-thm
+use Rattle.recorded.proofs.read_beside as read-beside
+use Rattle.recorded.proofs.read_beside.Symbol as read-beside-def
+use Rattle.recorded.proofs.read_beside.Symbol.{name as #recorded·read-beside}
+use Rattle.recorded.proofs.read_beside.Met as read-beside-thm
+use Rattle.recorded.proofs.placed_count as placed-count
+use Rattle.recorded.proofs.placed_count.Symbol as placed-count-def
+use Rattle.recorded.proofs.placed_count.Symbol.{name as #recorded·placed-count}
+use Rattle.recorded.proofs.placed_count.Met as placed-count-thm
 use Rattle.records.proofs.store_moves as store-moves
 use Rattle.records.proofs.store_moves.Symbol as store-moves-def
 use Rattle.records.proofs.store_moves.Symbol.{name as #records·store-moves}
@@ -128,7 +128,7 @@ module _ {M : Type 1} (𝓤 : URA M) (H : Heap 𝓤) (A : Atoms 𝓤) (W : Given
       keep ! (9 ∷ 7 ∷ 5 ∷ 3 ∷ 1 ∷ 8 ∷ 6 ∷ 4 ∷ 2 ∷ []) $ nothing ! $ move ! (1 ∷ 0 ∷ []) $ join ! $ move ! (1 ∷ 0 ∷ []) $ join ! $ move ! (1 ∷ 0 ∷ []) $ join ! $ move ! (1 ∷ 0 ∷ []) $ join ! $ move ! (1 ∷ 0 ∷ []) $ join ! $ frame ! $
       nothing ! $ adds ! $ adds ! $ adds ! $ adds ! $ nothing ! $ fjoin ! $ frame ! $ owned ! R₀.the-row (Is R₀.the-row) (EL.makes R₀.the-type R₀′.the-plain 𝓤 H A) r (v ∷ []) is $ done !
 
-  module _ (𝓣 : Tables 𝓤 H) (known-read-beside : Triple 𝓤 (𝓣 .C #jobs·read-beside) (tripleOf 𝓤 H A read-beside.signature (read-beside.spec 𝓤 H A mem run))) (known-placed-count : Triple 𝓤 (𝓣 .C #jobs·placed-count) (tripleOf 𝓤 H A placed-count.signature (placed-count.spec 𝓤 H A mem run))) (known-store-moves : Triple 𝓤 (𝓣 .C #records·store-moves) (tripleOf 𝓤 H A store-moves.signature (store-moves.spec 𝓤 H A mem run))) where
+  module _ (𝓣 : Tables 𝓤 H) (known-read-beside : Triple 𝓤 (𝓣 .C #recorded·read-beside) (tripleOf 𝓤 H A read-beside.signature (read-beside.spec 𝓤 H A mem run))) (known-placed-count : Triple 𝓤 (𝓣 .C #recorded·placed-count) (tripleOf 𝓤 H A placed-count.signature (placed-count.spec 𝓤 H A mem run))) (known-store-moves : Triple 𝓤 (𝓣 .C #records·store-moves) (tripleOf 𝓤 H A store-moves.signature (store-moves.spec 𝓤 H A mem run))) where
     walk : ent 𝓤 (onEntry 𝓤 H A f.signature (κ₀, (κ₁, (κ₂, (κ₃, (κ₄, tt))))) (q₀, (q₁, (q₂, (q₃, (q₄, tt))))) a at) (WpFn 𝓤 H (𝓣 .C) (𝓣 .Λ) code.function (mv₀ ∷ mv₁ ∷ mv₂ ∷ mv₃ ∷ mv₄ ∷ []) Post)
     walk =
         let fm = fmOf 𝓤 H (W .laws) 𝓣 in
@@ -195,7 +195,7 @@ module _ {M : Type 1} (𝓤 : URA M) (H : Heap 𝓤) (A : Atoms 𝓤) (W : Given
         returns ! (look ! 60 refl) $ frees-all ! 10 (some _ ∷ some _ ∷ some _ ∷ some _ ∷ some _ ∷ some _ ∷ some _ ∷ some _ ∷ some _ ∷ some _ ∷ some _ ∷ some _ ∷ some _ ∷ some _ ∷ some _ ∷ some _ ∷ some _ ∷ some _ ∷ some _ ∷ some _ ∷ some _ ∷ some _ ∷ some _ ∷ some _ ∷ some _ ∷ some _ ∷ []) refl $
         by ! (exits r₁ v₁ lanes₁ closed₁ records₃ order₁ is₁ (records-read text lanes closed records order lanes₁ closed₁ moves₁ order₁ records₃ r₂ e₂ e₃ r₁ e₁) (long-lanes₁) (long-closed₁) (long-records₃) (long-order₁))))))))))))))))))))))))))))))))))))))))))
 
-module _ {M : Type 1} (𝓤 : URA M) (H : Heap 𝓤) (A : Atoms 𝓤) (W : Given 𝓤 H A) (mem : Memory → SProp 𝓤) (run : Routine → Fun 𝓤) (𝓣 : Tables 𝓤 H) (known-read-beside : Triple 𝓤 (𝓣 .C #jobs·read-beside) (tripleOf 𝓤 H A read-beside.signature (read-beside.spec 𝓤 H A mem run))) (known-placed-count : Triple 𝓤 (𝓣 .C #jobs·placed-count) (tripleOf 𝓤 H A placed-count.signature (placed-count.spec 𝓤 H A mem run))) (known-store-moves : Triple 𝓤 (𝓣 .C #records·store-moves) (tripleOf 𝓤 H A store-moves.signature (store-moves.spec 𝓤 H A mem run))) where
+module _ {M : Type 1} (𝓤 : URA M) (H : Heap 𝓤) (A : Atoms 𝓤) (W : Given 𝓤 H A) (mem : Memory → SProp 𝓤) (run : Routine → Fun 𝓤) (𝓣 : Tables 𝓤 H) (known-read-beside : Triple 𝓤 (𝓣 .C #recorded·read-beside) (tripleOf 𝓤 H A read-beside.signature (read-beside.spec 𝓤 H A mem run))) (known-placed-count : Triple 𝓤 (𝓣 .C #recorded·placed-count) (tripleOf 𝓤 H A placed-count.signature (placed-count.spec 𝓤 H A mem run))) (known-store-moves : Triple 𝓤 (𝓣 .C #records·store-moves) (tripleOf 𝓤 H A store-moves.signature (store-moves.spec 𝓤 H A mem run))) where
   walks : Walks 𝓤 H A f.ended stayed (WpFn 𝓤 H (𝓣 .C) (𝓣 .Λ) code.function) (f.clauses 𝓤 H A mem run)
   walks = walked 𝓤 H A f.ended stayed (f.clauses 𝓤 H A mem run) (WpFn 𝓤 H (𝓣 .C) (𝓣 .Λ) code.function) (λ κs. (slice-vals, (slice-vals, (slice-vals, (slice-vals, (slice-vals, tt))))))
       (λ κs. (shr-slice-tells (named 0) (κs .0) u8, (mut-slice-tells (named 1) (κs .1 .0) u16, (mut-slice-tells (named 2) (κs .1 .1 .0) u16, (mut-slice-tells (named 3) (κs .1 .1 .1 .0) T.the-row, (mut-slice-tells (named 4) (κs .1 .1 .1 .1 .0) u16, tt))))))
@@ -214,6 +214,6 @@ read-job-spec 𝓤 H 𝓜 𝓖 𝓡 =
     entered 𝓤 H (tripleOf 𝓤 H (𝓖 .A) f.signature (f.spec 𝓤 H (𝓖 .A) (𝓜 .mem) (𝓡 .run)))
     (tables 𝓤 H 𝓜 𝓡 code.env .C) (tables 𝓤 H 𝓜 𝓡 code.env .Λ) #jobs·read-job code.function (code.unfolded 𝓤 H 𝓜 𝓡)
     (meets 𝓤 H (𝓖 .A) (givenOf 𝓤 H 𝓜 𝓖) (𝓜 .mem) (𝓡 .run) (tablesOf 𝓤 H 𝓜 (tables 𝓤 H 𝓜 𝓡 code.env))
-    (cited 𝓤 H (tripleOf 𝓤 H (𝓖 .A) read-beside.signature (read-beside.spec 𝓤 H (𝓖 .A) (𝓜 .mem) (𝓡 .run))) 𝓜 𝓡 code.env #jobs·read-beside read-beside-def.routine code.calls-jobs·read-beside (read-beside-thm.met 𝓤 H 𝓜 𝓖 𝓡))
-    (cited 𝓤 H (tripleOf 𝓤 H (𝓖 .A) placed-count.signature (placed-count.spec 𝓤 H (𝓖 .A) (𝓜 .mem) (𝓡 .run))) 𝓜 𝓡 code.env #jobs·placed-count placed-count-def.routine code.calls-jobs·placed-count (placed-count-thm.met 𝓤 H 𝓜 𝓖 𝓡))
+    (cited 𝓤 H (tripleOf 𝓤 H (𝓖 .A) read-beside.signature (read-beside.spec 𝓤 H (𝓖 .A) (𝓜 .mem) (𝓡 .run))) 𝓜 𝓡 code.env #recorded·read-beside read-beside-def.routine code.calls-recorded·read-beside (read-beside-thm.met 𝓤 H 𝓜 𝓖 𝓡))
+    (cited 𝓤 H (tripleOf 𝓤 H (𝓖 .A) placed-count.signature (placed-count.spec 𝓤 H (𝓖 .A) (𝓜 .mem) (𝓡 .run))) 𝓜 𝓡 code.env #recorded·placed-count placed-count-def.routine code.calls-recorded·placed-count (placed-count-thm.met 𝓤 H 𝓜 𝓖 𝓡))
     (cited 𝓤 H (tripleOf 𝓤 H (𝓖 .A) store-moves.signature (store-moves.spec 𝓤 H (𝓖 .A) (𝓜 .mem) (𝓡 .run))) 𝓜 𝓡 code.env #records·store-moves store-moves-def.routine code.calls-records·store-moves (store-moves-thm.met 𝓤 H 𝓜 𝓖 𝓡)))

@@ -52,9 +52,9 @@ use Rattle.records.proofs.Laws.{moved-length}
 use Rattle.hall.specs.Floor.{networkOf}
 use Rattle.hall.specs.Job.{jobOf}
 use Rattle.writer.specs.Writing.{saidWritten, Writing}
-use Rattle.jobs.specs.Writing.{RecordWriting}
-use Rattle.jobs.specs.Loading.{loaded}
-use Rattle.jobs.proofs.WriteRecords.{records-written}
+use Rattle.recorded.specs.Writing.{RecordWriting}
+use Rattle.recorded.specs.Loading.{loaded}
+use Rattle.recorded.proofs.WriteRecords.{records-written}
 use Rattle.writer.proofs.Written as W₀
 use Rattle.writer.proofs.Written.Laws as W₀′
 use Rattle.records.proofs.Record as T
@@ -62,10 +62,10 @@ use Rattle.records.proofs.load_moves as load-moves
 use Rattle.records.proofs.load_moves.Symbol as load-moves-def
 use Rattle.records.proofs.load_moves.Symbol.{name as #records·load-moves}
 use Rattle.records.proofs.load_moves.Met as load-moves-thm
-use Rattle.jobs.proofs.loaded.write_loaded as write-loaded
-use Rattle.jobs.proofs.loaded.write_loaded.Symbol as write-loaded-def
-use Rattle.jobs.proofs.loaded.write_loaded.Symbol.{name as #jobs·loaded·write-loaded}
-use Rattle.jobs.proofs.loaded.write_loaded.Met as write-loaded-thm
+use Rattle.recorded.proofs.write_loaded as write-loaded
+use Rattle.recorded.proofs.write_loaded.Symbol as write-loaded-def
+use Rattle.recorded.proofs.write_loaded.Symbol.{name as #recorded·write-loaded}
+use Rattle.recorded.proofs.write_loaded.Met as write-loaded-thm
 use Rattle.jobs.proofs.write_job.Key.{name as #jobs·write-job}
 use Rattle.jobs.proofs.write_job as f
 use Rattle.jobs.proofs.write_job.Statement as stated
@@ -129,7 +129,7 @@ module _ {M : Type 1} (𝓤 : URA M) (H : Heap 𝓤) (A : Atoms 𝓤) (W : Given
       keep ! (9 ∷ 7 ∷ 5 ∷ 3 ∷ 1 ∷ 8 ∷ []) $ nothing ! $ move ! (1 ∷ 0 ∷ []) $ join ! $ move ! (1 ∷ 0 ∷ []) $ join ! $ move ! (1 ∷ 0 ∷ []) $ join ! $ move ! (1 ∷ 0 ∷ []) $ join ! $ move ! (1 ∷ 0 ∷ []) $ join ! $ frame ! $
       nothing ! $ adds ! $ nothing ! $ fjoin ! $ nothing ! $ fjoin ! $ nothing ! $ fjoin ! $ nothing ! $ fjoin ! $ nothing ! $ fjoin ! $ nothing ! $ fjoin ! $ frame ! $ owned ! W₀.the-row (Is W₀.the-row) (EL.makes W₀.the-type W₀′.the-plain 𝓤 H A) r (v ∷ []) is $ done !
 
-  module _ (𝓣 : Tables 𝓤 H) (known-load-moves : Triple 𝓤 (𝓣 .C #records·load-moves) (tripleOf 𝓤 H A load-moves.signature (load-moves.spec 𝓤 H A mem run))) (known-write-loaded : Triple 𝓤 (𝓣 .C #jobs·loaded·write-loaded) (tripleOf 𝓤 H A write-loaded.signature (write-loaded.spec 𝓤 H A mem run))) where
+  module _ (𝓣 : Tables 𝓤 H) (known-load-moves : Triple 𝓤 (𝓣 .C #records·load-moves) (tripleOf 𝓤 H A load-moves.signature (load-moves.spec 𝓤 H A mem run))) (known-write-loaded : Triple 𝓤 (𝓣 .C #recorded·write-loaded) (tripleOf 𝓤 H A write-loaded.signature (write-loaded.spec 𝓤 H A mem run))) where
     walk : ent 𝓤 (onEntry 𝓤 H A f.signature (κ₀, (κ₁, (κ₂, (κ₃, (κ₄, tt))))) (q₀, (q₁, (q₂, (q₃, (q₄, tt))))) a at) (WpFn 𝓤 H (𝓣 .C) (𝓣 .Λ) code.function (vint w64 x₁ ∷ mv₀ ∷ mv₁ ∷ mv₂ ∷ mv₃ ∷ vint w64 x₆ ∷ mv₄ ∷ []) Post)
     walk =
         let fm = fmOf 𝓤 H (W .laws) 𝓣 in
@@ -178,7 +178,7 @@ module _ {M : Type 1} (𝓤 : URA M) (H : Heap 𝓤) (A : Atoms 𝓤) (W : Given
         returns ! (look ! 42 refl) $ frees-all ! 10 (some _ ∷ some _ ∷ some _ ∷ some _ ∷ some _ ∷ some _ ∷ some _ ∷ some _ ∷ some _ ∷ some _ ∷ some _ ∷ some _ ∷ some _ ∷ some _ ∷ some _ ∷ some _ ∷ some _ ∷ []) refl $
         by ! (exits r₂ v₂ out₂ is₂ (records-written (networkOf x₁ lanes closed) records order x₆ out out₂ r₂ e₂) (long-out₂))))))))))))))))))))))))))
 
-module _ {M : Type 1} (𝓤 : URA M) (H : Heap 𝓤) (A : Atoms 𝓤) (W : Given 𝓤 H A) (mem : Memory → SProp 𝓤) (run : Routine → Fun 𝓤) (𝓣 : Tables 𝓤 H) (known-load-moves : Triple 𝓤 (𝓣 .C #records·load-moves) (tripleOf 𝓤 H A load-moves.signature (load-moves.spec 𝓤 H A mem run))) (known-write-loaded : Triple 𝓤 (𝓣 .C #jobs·loaded·write-loaded) (tripleOf 𝓤 H A write-loaded.signature (write-loaded.spec 𝓤 H A mem run))) where
+module _ {M : Type 1} (𝓤 : URA M) (H : Heap 𝓤) (A : Atoms 𝓤) (W : Given 𝓤 H A) (mem : Memory → SProp 𝓤) (run : Routine → Fun 𝓤) (𝓣 : Tables 𝓤 H) (known-load-moves : Triple 𝓤 (𝓣 .C #records·load-moves) (tripleOf 𝓤 H A load-moves.signature (load-moves.spec 𝓤 H A mem run))) (known-write-loaded : Triple 𝓤 (𝓣 .C #recorded·write-loaded) (tripleOf 𝓤 H A write-loaded.signature (write-loaded.spec 𝓤 H A mem run))) where
   walks : Walks 𝓤 H A f.ended stayed (WpFn 𝓤 H (𝓣 .C) (𝓣 .Λ) code.function) (f.clauses 𝓤 H A mem run)
   walks = walked 𝓤 H A f.ended stayed (f.clauses 𝓤 H A mem run) (WpFn 𝓤 H (𝓣 .C) (𝓣 .Λ) code.function) (λ κs. (uint-vals w64, (slice-vals, (slice-vals, (slice-vals, (slice-vals, (uint-vals w64, (slice-vals, tt))))))))
       (λ κs. (uint-tells w64, (shr-slice-tells (named 0) (κs .0) u16, (shr-slice-tells (named 1) (κs .1 .0) u16, (shr-slice-tells (named 2) (κs .1 .1 .0) T.the-row, (shr-slice-tells (named 3) (κs .1 .1 .1 .0) u16, (uint-tells w64, (mut-slice-tells (named 4) (κs .1 .1 .1 .1 .0) u8, tt))))))))
@@ -198,4 +198,4 @@ write-job-spec 𝓤 H 𝓜 𝓖 𝓡 =
     (tables 𝓤 H 𝓜 𝓡 code.env .C) (tables 𝓤 H 𝓜 𝓡 code.env .Λ) #jobs·write-job code.function (code.unfolded 𝓤 H 𝓜 𝓡)
     (meets 𝓤 H (𝓖 .A) (givenOf 𝓤 H 𝓜 𝓖) (𝓜 .mem) (𝓡 .run) (tablesOf 𝓤 H 𝓜 (tables 𝓤 H 𝓜 𝓡 code.env))
     (cited 𝓤 H (tripleOf 𝓤 H (𝓖 .A) load-moves.signature (load-moves.spec 𝓤 H (𝓖 .A) (𝓜 .mem) (𝓡 .run))) 𝓜 𝓡 code.env #records·load-moves load-moves-def.routine code.calls-records·load-moves (load-moves-thm.met 𝓤 H 𝓜 𝓖 𝓡))
-    (cited 𝓤 H (tripleOf 𝓤 H (𝓖 .A) write-loaded.signature (write-loaded.spec 𝓤 H (𝓖 .A) (𝓜 .mem) (𝓡 .run))) 𝓜 𝓡 code.env #jobs·loaded·write-loaded write-loaded-def.routine code.calls-jobs·loaded·write-loaded (write-loaded-thm.met 𝓤 H 𝓜 𝓖 𝓡)))
+    (cited 𝓤 H (tripleOf 𝓤 H (𝓖 .A) write-loaded.signature (write-loaded.spec 𝓤 H (𝓖 .A) (𝓜 .mem) (𝓡 .run))) 𝓜 𝓡 code.env #recorded·write-loaded write-loaded-def.routine code.calls-recorded·write-loaded (write-loaded-thm.met 𝓤 H 𝓜 𝓖 𝓡)))

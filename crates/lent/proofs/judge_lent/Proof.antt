@@ -45,7 +45,7 @@ use Rattle.records.proofs.Calls.{lends-mut, unlends-mut, shares-mut, unshares-m
 use Rattle.records.proofs.Arrays.{array-opens}
 use Rattle.records.proofs.Table.{rec}
 use Rattle.hall.specs.Floor.{networkOf}
-use Rattle.jobs.specs.Asking.{ListOfRecords}
+use Rattle.recorded.specs.Asking.{ListOfRecords}
 use Rattle.lent.specs.Lent.{madeOf, toldTo, LentList}
 use Rattle.lent.proofs.Lent.{within-lendable, lends-kept}
 use Rattle.lent.proofs.Fronts.{shares-front, unshares-front, array-shuts-is, Records, records-typed, records-makes, room-within, front-fits}

@@ -45,7 +45,7 @@ use Rattle.records.proofs.Calls.{lends-mut, unlends-mut, shares-mut, unshares-m
 use Rattle.records.proofs.Arrays.{array-opens}
 use Rattle.records.proofs.Table.{rec}
 use Rattle.hall.specs.Floor.{networkOf}
-use Rattle.jobs.specs.Planning.{RecordPlanning}
+use Rattle.recorded.specs.Planning.{RecordPlanning}
 use Rattle.lent.specs.Lent.{madeOf, toldTo, LentPlanning}
 use Rattle.lent.proofs.Lent.{within-lendable, lends}
 use Rattle.lent.proofs.Fronts.{lends-front, unlends-front, array-shuts-is, Records, records-typed, records-makes, room-within, front-fits}

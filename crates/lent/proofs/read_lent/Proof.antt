@@ -44,7 +44,7 @@ use Rattle.records.proofs.Walk.{ref, frees-all, puts}
 use Rattle.records.proofs.Calls.{lends-mut, unlends-mut, shares-mut, unshares-mut, hands-shr, adds, parts, passes, calls-spec}
 use Rattle.records.proofs.Arrays.{array-opens}
 use Rattle.records.proofs.Table.{rec}
-use Rattle.jobs.specs.Reading.{ReadLeft}
+use Rattle.recorded.specs.Reading.{ReadLeft}
 use Rattle.lent.specs.Lent.{madeOf, toldTo, LentReading}
 use Rattle.lent.proofs.Lent.{within-lendable, lends}
 use Rattle.lent.proofs.Fronts.{lends-front, unlends-front, array-shuts-is, Records, records-typed, records-makes, room-within, front-fits}
