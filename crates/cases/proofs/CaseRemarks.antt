@@ -7,7 +7,7 @@
 --     TruePair k    what holds of every pair of true distances of the first two carriers
 use mathlib.Core.Path.{_≡_, refl, sym, _∙_, ap}
 use mathlib.Core.Logic.{inl}
-use mathlib.Core.List.{List, [], _∷_}
+use mathlib.Core.List.{List, []}
 use Prim.Native.Nat.{ℕ, suc, _+_, _<_}
 use native.Mathlib.Omega.{arith}
 use lib.ListN.{length, getD}
@@ -20,7 +20,7 @@ use Rattle.hall.specs.Rule.{Pair, lead-i, lead-j, gap}
 use Rattle.hall.specs.Ticks.{Tables, pairOf, total}
 use Rattle.hall.specs.Path.{PathOf, ShortestPath, At, Meet, Cross}
 use Rattle.hall.specs.Plan.{TablesOf}
-use Rattle.cases.specs.Case.{cases, line4}
+use Rattle.cases.specs.Case.{cases, line4, there, back}
 use Rattle.hall.proofs.Walks.{true-distance}
 use Rattle.hall.proofs.Labels.{labels-are}
 use Rattle.hall.proofs.PlanLaws.{tables-unique, pair-same}
@@ -56,12 +56,6 @@ unfolding cases total
 P10-no-walk t h = ap (λ (p : Pair). p .ss) (pair-guessed (job 9) (labelled? (job 9) .sound tt) (all-cases 9 (omega arith) .no-fault) t h 0 1 (omega arith) (omega arith))
 
 -- ---- P4: at tick 0 the two would cross, and not meet
-
-abbrev pub there : List ℕ
-there = 0 ∷ 1 ∷ 2 ∷ 3 ∷ []
-
-abbrev pub back : List ℕ
-back = 3 ∷ 2 ∷ 1 ∷ 0 ∷ []
 
 -- the list is a path of d lanes from s to g
 abbrev path? : (N : Network) (s g d : ℕ) (l : List ℕ) → Test (PathOf (floor N) s g d l)

@@ -24,6 +24,7 @@
 --     closed-cases    a floor plate is taken up: the way round it, no way, and a plate that is in no one's
 --                     way
 --     dwell-cases     carriers that wait over the chute
+--     there, back     the shortest paths of the two carriers of P4, of which rule 11.4 remarks something
 use mathlib.Core.Path.{_≡_}
 use mathlib.Core.List.{List, [], _∷_}
 use Prim.Native.Nat.{ℕ}
@@ -174,3 +175,9 @@ dwell-cases =
     ∷ case-dwell 4 (0 ∷ 1 ∷ 2 ∷ 3 ∷ []) (0 ∷ 1 ∷ 2 ∷ 3 ∷ []) (0 ∷ 1 ∷ []) 255 (planned (0 ∷ 0 ∷ []) 2)
     ∷ case-dwell 2 line2 (0 ∷ 1 ∷ 1 ∷ 0 ∷ []) (0 ∷ 1 ∷ []) 255 (planned (0 ∷ 257 ∷ []) 259)
     ∷ []
+
+abbrev pub there : List ℕ
+there = 0 ∷ 1 ∷ 2 ∷ 3 ∷ []
+
+abbrev pub back : List ℕ
+back = 3 ∷ 2 ∷ 1 ∷ 0 ∷ []
