@@ -14,26 +14,28 @@ use Rattle.hall.specs.Floor.{Closed}
 use Rattle.hall.specs.Rule.{Answers}
 use Rattle.hall.specs.Refusals.{ClosedFault, no-such-node, not-higher}
 
-module _ (nodes : ℕ) (closed : List ℕ) (k node : ℕ) (e : node ≡ getD closed k 0) where
-  pub no-node-bad : nodes ≤ node → ClosedFault nodes closed k
-  no-node-bad l = no-such-node (omega arith)
+module _ (nodes : ℕ) (closed : List ℕ) (k node : ℕ) (inside : k < length closed) (e : node ≡ getD closed k 0) where
+  pub no-node-bad : nodes ≤ node → (k < length closed) × ClosedFault nodes closed k
+  no-node-bad l = (inside, no-such-node (omega arith))
 
-  pub first-entry-sound : node < nodes → k ≡ 0 → ¬ ClosedFault nodes closed k
-  first-entry-sound l z (no-such-node x) = omega arith
-  first-entry-sound l z (not-higher j s x) = omega arith
+  sound-entry : node < nodes → ((j : ℕ) → j + 1 ≡ k → getD closed j 0 < node) → ¬ ClosedFault nodes closed k
+  sound-entry l above (no-such-node x) = omega arith
+  sound-entry l above (not-higher j s x) = omega (arith, above j s)
 
-  module _ (before : ℕ) (b : before ≡ getD closed (k - 1) 0) (later : k ≡ 0 → ⊥) where
-    entry-before : (j : ℕ) → j + 1 ≡ k → getD closed j 0 ≡ before
-    entry-before j s =
-        let at : j ≡ k - 1 = omega arith in
-        ap (λ (n : ℕ). getD closed n 0) at ∙ sym b
+  pub first-entry-sound : node < nodes → k ≡ 0 → ¬ ((k < length closed) × ClosedFault nodes closed k)
+  first-entry-sound l z f = sound-entry l (λ j s. omega arith) (f .1)
 
-    pub rising-entry-sound : node < nodes → before < node → ¬ ClosedFault nodes closed k
-    rising-entry-sound l r (no-such-node x) = omega arith
-    rising-entry-sound l r (not-higher j s x) = omega (arith, entry-before j s)
+  module _ (before : ℕ) (b : before ≡ getD closed (k - 1) 0) where
+    pub rising-entry-sound : node < nodes → before < node → ¬ ((k < length closed) × ClosedFault nodes closed k)
+    rising-entry-sound l r f = sound-entry l above (f .1)
+      where
+        above : (j : ℕ) → j + 1 ≡ k → getD closed j 0 < node
+        above j s =
+            let at : j ≡ k - 1 = omega arith in
+            omega (arith, ap (λ (n : ℕ). getD closed n 0) at)
 
-    pub falling-entry-bad : node ≤ before → ClosedFault nodes closed k
-    falling-entry-bad r = not-higher (k - 1) (omega arith) (omega arith)
+    pub falling-entry-bad : (k ≡ 0 → ⊥) → node ≤ before → (k < length closed) × ClosedFault nodes closed k
+    falling-entry-bad later r = (inside, not-higher (k - 1) (omega arith) (omega arith))
 
 -- ---- a node among the first entries
 

@@ -1,7 +1,7 @@
--- One lane of the list: it is faulty if its ends are, or if it does not stand above the lane before; and in
--- no other way. The numbers come as the code has read them, with the equation that says where. The lane
--- before lane k has its two numbers at 2 k - 2 and 2 k - 1. Assumes nothing.
---     BadEnds    two numbers are no pair (lower, higher) of nodes
+-- One lane of the list: it is faulty if its ends are no pair (lower, higher) of nodes, or if it does not stand
+-- above the lane before; and in no other way. Where the lower end is below the higher one, and that is a node,
+-- both are. The numbers come as the code has read them, with the equation that says where: the lane before lane
+-- k has its two numbers at 2 k - 2 and 2 k - 1. Assumes nothing.
 --     Above      the lane (low, high) stands above the lane (low₀, high₀)
 use mathlib.Core.Path.{_≡_, sym, _∙_, ap}
 use mathlib.Core.Logic.{_⊎_, inl, inr}
@@ -9,65 +9,76 @@ use mathlib.Core.List.{List}
 use Prim.Native.Nat.{ℕ, _+_, _*_, _-_, _≤_, _<_}
 use native.Mathlib.Omega.{arith}
 use lib.ListN.{getD}
-use Rattle.hall.specs.Floor.{lower, higher}
+use Rattle.hall.specs.Floor.{laneCount, lower, higher}
 use Rattle.hall.specs.Refusals.{Exceeds, by-lower, by-higher, LaneFault, no-node, not-below, not-rising}
-
-abbrev pub BadEnds : (nodes low high : ℕ) → Type 0
-BadEnds nodes low high = (nodes ≤ low) ⊎ ((nodes ≤ high) ⊎ (high ≤ low))
 
 abbrev pub Above : (low₀ high₀ low high : ℕ) → Type 0
 Above low₀ high₀ low high = (low₀ < low) ⊎ ((low₀ ≡ low) × (high₀ < high))
 
+-- the lane before lane k, by the numbers that are read
+module _ (lanes : List ℕ) (k low₀ high₀ : ℕ)
+    (l₀ : low₀ ≡ getD lanes (2 * k - 2) 0)
+    (h₀ : high₀ ≡ getD lanes (2 * k - 1) 0)
+    (j : ℕ) (e : j + 1 ≡ k) where
+  lower-before : lower lanes j ≡ low₀
+  lower-before = let at : 2 * j ≡ 2 * k - 2 = omega arith in ap (λ (n : ℕ). getD lanes n 0) at ∙ sym l₀
+
+  higher-before : higher lanes j ≡ high₀
+  higher-before = let at : 2 * j + 1 ≡ 2 * k - 1 = omega arith in ap (λ (n : ℕ). getD lanes n 0) at ∙ sym h₀
+
 module _ (nodes : ℕ) (lanes : List ℕ) (k low high : ℕ)
+    (inside : k < laneCount lanes)
     (l : low ≡ lower lanes k)
     (h : high ≡ higher lanes k) where
-  pub bad-ends : BadEnds nodes low high → LaneFault nodes lanes k
-  bad-ends (inl x) = no-node (inl (omega arith))
-  bad-ends (inr (inl x)) = no-node (inr (omega arith))
-  bad-ends (inr (inr x)) = not-below (omega arith)
+  pub falling-ends-bad : high ≤ low → (k < laneCount lanes) × LaneFault nodes lanes k
+  falling-ends-bad x = (inside, not-below (omega arith))
 
-  sound-lane :
-      ¬ BadEnds nodes low high →
-      ((j : ℕ) → j + 1 ≡ k → Exceeds lanes k j) →
-      ¬ LaneFault nodes lanes k
-  sound-lane n above (no-node (inl x)) = n (inl (omega arith))
-  sound-lane n above (no-node (inr x)) = n (inr (inl (omega arith)))
-  sound-lane n above (not-below x) = n (inr (inr (omega arith)))
-  sound-lane n above (not-rising {j = j} e x) = x (above j e)
+  pub no-node-bad : nodes ≤ high → (k < laneCount lanes) × LaneFault nodes lanes k
+  no-node-bad x = (inside, no-node (inr (omega arith)))
 
-  pub first-lane-sound : ¬ BadEnds nodes low high → k ≡ 0 → ¬ LaneFault nodes lanes k
-  first-lane-sound n z = sound-lane n (λ j e. absurd (let x : ⊥ = omega arith in x))
+  sound-lane : low < high → high < nodes → ((j : ℕ) → j + 1 ≡ k → Exceeds lanes k j) → ¬ LaneFault nodes lanes k
+  sound-lane below node above (no-node (inl x)) = omega arith
+  sound-lane below node above (no-node (inr x)) = omega arith
+  sound-lane below node above (not-below x) = omega arith
+  sound-lane below node above (not-rising {j = j} e x) = x (above j e)
+
+  pub first-lane-sound : low < high → high < nodes → k ≡ 0 → ¬ ((k < laneCount lanes) × LaneFault nodes lanes k)
+  first-lane-sound below node z f = sound-lane below node (λ j e. absurd (let x : ⊥ = omega arith in x)) (f .1)
 
   module _ (low₀ high₀ : ℕ)
       (l₀ : low₀ ≡ getD lanes (2 * k - 2) 0)
-      (h₀ : high₀ ≡ getD lanes (2 * k - 1) 0)
-      (later : k ≡ 0 → ⊥) where
-    lower-before : (j : ℕ) → j + 1 ≡ k → lower lanes j ≡ low₀
-    lower-before j e =
-        let at : 2 * j ≡ 2 * k - 2 = omega arith in
-        ap (λ (n : ℕ). getD lanes n 0) at ∙ sym l₀
-
-    higher-before : (j : ℕ) → j + 1 ≡ k → higher lanes j ≡ high₀
-    higher-before j e =
-        let at : 2 * j + 1 ≡ 2 * k - 1 = omega arith in
-        ap (λ (n : ℕ). getD lanes n 0) at ∙ sym h₀
-
-    pub rising-lane-sound : ¬ BadEnds nodes low high → Above low₀ high₀ low high → ¬ LaneFault nodes lanes k
-    rising-lane-sound n r = sound-lane n (λ j e. above j e r)
+      (h₀ : high₀ ≡ getD lanes (2 * k - 1) 0) where
+    pub rising-lane-sound : low < high → high < nodes → Above low₀ high₀ low high →
+        ¬ ((k < laneCount lanes) × LaneFault nodes lanes k)
+    rising-lane-sound below node r f = sound-lane below node (λ j e. above j e r) (f .1)
       where
         above : (j : ℕ) → j + 1 ≡ k → Above low₀ high₀ low high → Exceeds lanes k j
-        above j e (inl x) = by-lower (omega (arith, lower-before j e))
-        above j e (inr x) = by-higher (omega (arith, lower-before j e)) (omega (arith, higher-before j e))
+        above j e (inl x) = by-lower (omega (arith, lower-before lanes k low₀ high₀ l₀ h₀ j e))
+        above j e (inr x) =
+            let lower = lower-before lanes k low₀ high₀ l₀ h₀ j e in
+            let higher = higher-before lanes k low₀ high₀ l₀ h₀ j e in
+            by-higher (omega (arith, lower)) (omega (arith, higher))
 
-    pub falling-lane-bad : ¬ Above low₀ high₀ low high → LaneFault nodes lanes k
-    falling-lane-bad n = not-rising {j = k - 1} before not-above
+    pub falling-lane-bad : (k ≡ 0 → ⊥) → ¬ Above low₀ high₀ low high →
+        (k < laneCount lanes) × LaneFault nodes lanes k
+    falling-lane-bad later n = (inside, not-rising {j = k - 1} before not-above)
       where
         before : k - 1 + 1 ≡ k
         before = omega arith
 
         not-above : ¬ Exceeds lanes k (k - 1)
-        not-above (by-lower x) = n (inl (omega (arith, lower-before (k - 1) before)))
+        not-above (by-lower x) = n (inl (omega (arith, lower-before lanes k low₀ high₀ l₀ h₀ (k - 1) before)))
         not-above (by-higher e x) =
-            let lower = lower-before (k - 1) before in
-            let higher = higher-before (k - 1) before in
+            let lower = lower-before lanes k low₀ high₀ l₀ h₀ (k - 1) before in
+            let higher = higher-before lanes k low₀ high₀ l₀ h₀ (k - 1) before in
             n (inr (omega (arith, lower), omega (arith, higher)))
+
+    pub below-before-bad : (k ≡ 0 → ⊥) → low ≤ low₀ → ¬ (low₀ ≡ low) →
+        (k < laneCount lanes) × LaneFault nodes lanes k
+    below-before-bad later x differ =
+        falling-lane-bad later (λ a. elim a [ inl y ↦ omega arith | inr y ↦ differ (y .0) ])
+
+    pub again-bad : (k ≡ 0 → ⊥) → low ≤ low₀ → high ≤ high₀ →
+        (k < laneCount lanes) × LaneFault nodes lanes k
+    again-bad later x y =
+        falling-lane-bad later (λ a. elim a [ inl z ↦ omega arith | inr z ↦ omega (arith, z .1) ])

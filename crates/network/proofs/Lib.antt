@@ -2,4 +2,5 @@
 pub mod Questions
 pub mod LaneList
 pub mod ClosedList
+pub mod EntryKinds
 pub mod Unique

@@ -17,6 +17,8 @@ use Rattle.hall.specs.Questions.{counts, eachLane, eachClosed, eachMove, eachOr
 use Rattle.hall.specs.Questions.{networkQuestion, checksQuestion, moveEnds}
 use Rattle.hall.proofs.Stages.{judged-unique}
 use Rattle.hall.proofs.Answers.{answers-unique}
+use Rattle.network.specs.declared.entries.Entries.{Entries}
+use Rattle.network.specs.Entries.{eachIn}
 
 abbrev pub OneAnswer : Question → Type 0
 OneAnswer q = (c d : Checked) → Judged q c → Judged q d → c ≡ d
@@ -29,9 +31,6 @@ check-counts-unique nodes lane-numbers closed carriers order dwell =
 pub check-lane-unique : (nodes : ℕ) (lanes : List ℕ) (k : ℕ) → OneAnswer (only-at k (eachLane nodes lanes))
 check-lane-unique nodes lanes k = judged-unique (only-at k (eachLane nodes lanes))
 
-pub check-lanes-unique : (nodes : ℕ) (lanes : List ℕ) → OneAnswer (eachLane nodes lanes ∷ [])
-check-lanes-unique nodes lanes = judged-unique (eachLane nodes lanes ∷ [])
-
 pub is-closed-unique : (closed : List ℕ) (node : ℕ) (r r′ : Bool) →
     Answers r (Closed closed node) → Answers r′ (Closed closed node) → r ≡ r′
 is-closed-unique closed node = answers-unique (Closed closed node)
@@ -40,22 +39,23 @@ pub check-closed-node-unique : (nodes : ℕ) (closed : List ℕ) (k : ℕ) →
     OneAnswer (only-at k (eachClosed nodes closed))
 check-closed-node-unique nodes closed k = judged-unique (only-at k (eachClosed nodes closed))
 
-pub check-closed-unique : (nodes : ℕ) (closed : List ℕ) → OneAnswer (eachClosed nodes closed ∷ [])
-check-closed-unique nodes closed = judged-unique (eachClosed nodes closed ∷ [])
-
 pub check-entry-unique : (nodes : ℕ) (closed moves : List ℕ) (i : ℕ) →
     OneAnswer (only-at i (eachMove nodes closed moves))
 check-entry-unique nodes closed moves i = judged-unique (only-at i (eachMove nodes closed moves))
-
-pub check-moves-unique : (nodes : ℕ) (closed moves : List ℕ) → OneAnswer (eachMove nodes closed moves ∷ [])
-check-moves-unique nodes closed moves = judged-unique (eachMove nodes closed moves ∷ [])
 
 pub check-place-unique : (carriers : ℕ) (order : List ℕ) (p : ℕ) →
     OneAnswer (only-at p (eachOrderPlace carriers order))
 check-place-unique carriers order p = judged-unique (only-at p (eachOrderPlace carriers order))
 
-pub check-order-unique : (carriers : ℕ) (order : List ℕ) → OneAnswer (eachOrderPlace carriers order ∷ [])
-check-order-unique carriers order = judged-unique (eachOrderPlace carriers order ∷ [])
+pub check-one-unique : (which : Entries) (nodes carriers : ℕ) (closed list : List ℕ) (k : ℕ) →
+    OneAnswer (only-at k (eachIn which nodes carriers closed list))
+check-one-unique which nodes carriers closed list k =
+    judged-unique (only-at k (eachIn which nodes carriers closed list))
+
+pub check-each-unique : (which : Entries) (nodes carriers : ℕ) (closed list : List ℕ) →
+    OneAnswer (eachIn which nodes carriers closed list ∷ [])
+check-each-unique which nodes carriers closed list =
+    judged-unique (eachIn which nodes carriers closed list ∷ [])
 
 pub check-network-unique : (N : Network) → OneAnswer (networkQuestion N)
 check-network-unique N = judged-unique (networkQuestion N)

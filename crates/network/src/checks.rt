@@ -1,24 +1,24 @@
-// The listed checks from numbers (rule 8.22): 2, 3, 12, then 4, 5 and 13 of each move, then 7; those of lanes
-// are in lanes.rt and those of closed nodes in closed.rt. Each function answers the first fault of its
-// stages, with its place, or that there is none. Lists of any length may be put. A lane and a move take two
-// numbers each, a closed node and an order place one, and their counts come from the lists' lengths; the node
-// count and the dwell are numbers of their own. An odd last number of a lane list is a fault of its count; an
-// odd last number of a move list is no move and is ignored, since records come whole.
+// The listed checks from numbers (rule 8.22): 2, then 3 of each lane, 12 of each closed node, 4, 5 and 13 of
+// each move, then 7 of each place of the order. The check of a lane is in lanes.rt, that of a closed node in
+// closed.rt, and the loop over the entries of a list in entries.rt. Each function answers the first fault of
+// its stages, with its place, or that there is none. Lists of any length may be put. A lane and a move take
+// two numbers each, a closed node and an order place one, and their counts come from the lists' lengths; the
+// node count and the dwell are numbers of their own. An odd last number of a lane list is a fault of its
+// count; an odd last number of a move list is no move and is ignored, since records come whole.
 //
 // The checks of one entry stand by themselves, so that a reader can ask them of what it has stored. An entry
 // that is not there has no fault.
-use crate::closed::check_closed;
 use crate::closed::is_closed;
-use crate::lanes::check_lanes;
+use crate::entries::Entries;
+use crate::entries::check_each;
 use hall::Checked;
 use hall::Fault;
 use hall::Job;
 use hall::Place;
 use hall::Refusal;
 ghost use mathlib.Core.Path.{_≡_};
-ghost use mathlib.Core.List.{[], _∷_};
 ghost use Prim.Native.Nat.{_<_};
-ghost use lib.ListN.{length};
+ghost use lib.ListN.{length, getD};
 ghost use denote.Ref.{now};
 ghost use Rattle.hall.specs.Floor.{networkOf};
 ghost use Rattle.hall.specs.Job.{jobOf};
@@ -48,59 +48,65 @@ pub fn check_counts(
 ) -> Checked
     ensures { λ r. ⌜ Judged (counts nodes «lane_numbers» closed carriers order dwell) r ⌝ }
 {
-    let largest = Job::largest();
+    let fault = Fault::BadCount;
     if nodes < 1 {
-        return refused(Fault::BadCount, 0);
+        return refused(fault, 0);
     }
-    if nodes > largest.nodes {
-        return refused(Fault::BadCount, 0);
+    if nodes > Job::NODES {
+        return refused(fault, 0);
     }
-    if lane_numbers / 2 > largest.lanes {
-        return refused(Fault::BadCount, 1);
+    if lane_numbers / 2 > Job::LANES {
+        return refused(fault, 1);
     }
     if lane_numbers % 2 == 1 {
-        return refused(Fault::BadCount, 1);
+        return refused(fault, 1);
     }
-    if closed > largest.closed {
-        return refused(Fault::BadCount, 4);
+    if closed > Job::NODES {
+        return refused(fault, 4);
     }
-    if carriers > largest.carriers {
-        return refused(Fault::BadCount, 2);
+    if carriers > Job::CARRIERS {
+        return refused(fault, 2);
     }
     if order != carriers {
-        return refused(Fault::BadCount, 3);
+        return refused(fault, 3);
     }
-    if dwell > largest.dwell {
-        return refused(Fault::BadCount, 5);
+    if dwell > Job::DWELL {
+        return refused(fault, 5);
     }
     Checked::Sound
 }
 
-// A node number as a count.
-pub(crate) fn wide(x: u16) -> usize
-    ensures { λ r. ⌜ r ≡ x ⌝ }
+// The number at a place of a list; 0 past its end.
+pub(crate) fn number_at(list: &[u16], at: usize) -> u16
+    ensures { λ r. ⌜ r ≡ getD (now (list .entry)) at 0 ⌝ }
 {
-    x as usize
+    if at < list.len() {
+        return list[at];
+    }
+    0
 }
 
 // 4, 5 and 13, of one move at the place i: its ends are nodes, differ and are not closed.
 fn check_ends(nodes: usize, closed: &[u16], start: u16, goal: u16, i: usize) -> Checked
     ensures { λ r. ⌜ Judged (only-at i (ends nodes (now (closed .entry)) (λ p. start) (λ p. goal))) r ⌝ }
 {
-    if wide(start) >= nodes {
-        return refused(Fault::OffFloor, i);
+    let mut fault = Fault::OffFloor;
+    if start as usize >= nodes {
+        return refused(fault, i);
     }
-    if wide(goal) >= nodes {
-        return refused(Fault::OffFloor, i);
+    if goal as usize >= nodes {
+        return refused(fault, i);
     }
+    fault = Fault::SameEnds;
     if start == goal {
-        return refused(Fault::SameEnds, i);
+        return refused(fault, i);
     }
+    fault = Fault::ClosedEnd;
     if is_closed(closed, start) {
-        return refused(Fault::ClosedEnd, i);
+        return refused(fault, i);
     }
     if is_closed(closed, goal) {
-        return refused(Fault::ClosedEnd, i);
+        return refused(fault, i);
     }
     Checked::Sound
 }
@@ -113,42 +119,27 @@ pub fn check_entry(nodes: usize, closed: &[u16], moves: &[u16], i: usize) -> Che
         return Checked::Sound;
     }
     let at = 2 * i;
-    let start = moves[at];
-    let goal = moves[at + 1];
+    let start = number_at(moves, at);
+    let goal = number_at(moves, at + 1);
     check_ends(nodes, closed, start, goal, i)
 }
 
-// 4, 5 and 13, move by move. The moves are a start and a goal by turns.
-pub fn check_moves(nodes: usize, closed: &[u16], moves: &[u16]) -> Checked
-    ensures { λ r. ⌜ Judged (eachMove nodes (now (closed .entry)) (now (moves .entry)) ∷ []) r ⌝ }
+// 7, at a place of the order: the entry is no carrier's number, or stands earlier. Past the order's end there
+// is none.
+fn order_fault(carriers: usize, order: &[u16], p: usize) -> bool
+    ensures { λ r. ⌜ Answers r ((p < length (now (order .entry))) × BadOrder-at carriers (now (order .entry)) p) ⌝ }
 {
-    let count = moves.len() / 2;
-    let mut i: usize = 0;
-    while i < count {
-        let one = check_entry(nodes, closed, moves, i);
-        if let Checked::Refused(_) = one {
-            return one;
-        }
-        i += 1;
+    if p >= order.len() {
+        return false;
     }
-    Checked::Sound
-}
-
-// 7, at a place of the order: the entry is no carrier's number, or stands earlier.
-fn order_fault(carriers: usize, order: &[u16], place: Place) -> bool
-    requires { ⌜ place .0 < length (now order) ⌝ }
-    ensures { λ r. ⌜ Answers r (BadOrder-at carriers (now (order .entry)) (place .0)) ⌝ }
-{
-    let p = place.0;
-    let carrier = place.carrier(order);
-    let number = wide(carrier.0);
-    if number >= carriers {
+    let carrier = number_at(order, p);
+    if carrier as usize >= carriers {
         return true;
     }
     let mut q: usize = 0;
     while q < p {
-        let earlier = Place(q).carrier(order);
-        if earlier.0 == carrier.0 {
+        let earlier = number_at(order, q);
+        if earlier == carrier {
             return true;
         }
         q += 1;
@@ -156,50 +147,15 @@ fn order_fault(carriers: usize, order: &[u16], place: Place) -> bool
     false
 }
 
-// 7, of one place of the order.
+// 7, of one place of the order: its entry is a carrier's number, and stands at no earlier place.
 pub fn check_place(carriers: usize, order: &[u16], place: Place) -> Checked
     ensures { λ r. ⌜ Judged (only-at (place .0) (eachOrderPlace carriers (now (order .entry)))) r ⌝ }
 {
     let p = place.0;
-    if p < order.len() {
-        if order_fault(carriers, order, place) {
-            return refused(Fault::BadOrder, p);
-        }
+    if order_fault(carriers, order, p) {
+        return refused(Fault::BadOrder, p);
     }
     Checked::Sound
-}
-
-// 7, place by place: each entry of the order is a carrier's number, and stands once.
-pub fn check_order(carriers: usize, order: &[u16]) -> Checked
-    ensures { λ r. ⌜ Judged (eachOrderPlace carriers (now (order .entry)) ∷ []) r ⌝ }
-{
-    let count = order.len();
-    let mut p: usize = 0;
-    while p < count {
-        let one = check_place(carriers, order, Place(p));
-        if let Checked::Refused(_) = one {
-            return one;
-        }
-        p += 1;
-    }
-    Checked::Sound
-}
-
-// A network alone: 2 (nodes, lanes, closed nodes), then 3, then 12.
-pub fn check_network(nodes: usize, lanes: &[u16], closed: &[u16]) -> Checked
-    ensures { λ r. ⌜ Judged
-        (networkQuestion (networkOf nodes (now (lanes .entry)) (now (closed .entry))))
-        r ⌝ }
-{
-    let counted = check_counts(nodes, lanes.len(), closed.len(), 0, 0, 0);
-    if let Checked::Refused(_) = counted {
-        return counted;
-    }
-    let joined = check_lanes(nodes, lanes);
-    if let Checked::Refused(_) = joined {
-        return joined;
-    }
-    check_closed(nodes, closed)
 }
 
 // A whole job: its counts and its dwell (2), its lanes (3), its closed nodes (12), its moves one after the
@@ -222,7 +178,7 @@ pub fn check_job(
         r ⌝ }
 {
     let carriers = moves.len() / 2;
-    let counted = check_counts(
+    let mut told = check_counts(
         nodes,
         lanes.len(),
         closed.len(),
@@ -230,22 +186,32 @@ pub fn check_job(
         order.len(),
         dwell,
     );
-    if let Checked::Refused(_) = counted {
-        return counted;
+    if let Checked::Refused(_) = told {
+        return told;
     }
-    let joined = check_lanes(nodes, lanes);
-    if let Checked::Refused(_) = joined {
-        return joined;
+    told = check_each(Entries::Lanes, nodes, carriers, closed, lanes);
+    if let Checked::Refused(_) = told {
+        return told;
     }
-    let shut = check_closed(nodes, closed);
-    if let Checked::Refused(_) = shut {
-        return shut;
+    told = check_each(Entries::Closed, nodes, carriers, closed, closed);
+    if let Checked::Refused(_) = told {
+        return told;
     }
-    let moved = check_moves(nodes, closed, moves);
-    if let Checked::Refused(_) = moved {
-        return moved;
+    told = check_each(Entries::Moves, nodes, carriers, closed, moves);
+    if let Checked::Refused(_) = told {
+        return told;
     }
-    check_order(carriers, order)
+    check_each(Entries::Places, nodes, carriers, closed, order)
+}
+
+// A network alone, 2 (nodes, lanes, closed nodes), then 3, then 12: the job on it that has no carriers, of
+// which nothing else is asked.
+pub fn check_network(nodes: usize, lanes: &[u16], closed: &[u16]) -> Checked
+    ensures { λ r. ⌜ Judged
+        (networkQuestion (networkOf nodes (now (lanes .entry)) (now (closed .entry))))
+        r ⌝ }
+{
+    check_job(nodes, lanes, closed, &[], &[], 0)
 }
 
 // A network and one move, whose place is 0: 2, 3, 12, then 4, 5 and 13.

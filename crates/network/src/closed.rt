@@ -1,11 +1,10 @@
-// The checks of closed nodes (rules 2.7, 8.12 and 8.13): whether a list of them is sound, and whether a node
-// stands in it. Lists of any length may be put. Only what looks at single nodes asks `is_closed`, which goes
-// through the list: the distance walk does not (crate `walk`).
+// The checks of closed nodes (rules 2.7, 8.12 and 8.13): whether an entry of a list of them is sound, and
+// whether a node stands in the list. Lists of any length may be put. Only what looks at single nodes asks
+// `is_closed`, which goes through the list: the distance walk does not (crate `walk`).
+use crate::checks::number_at;
 use crate::checks::refused;
-use crate::checks::wide;
 use hall::Checked;
 use hall::Fault;
-ghost use mathlib.Core.List.{[], _∷_};
 ghost use Prim.Native.Nat.{_<_};
 ghost use lib.ListN.{length};
 ghost use denote.Ref.{now};
@@ -33,19 +32,22 @@ pub fn is_closed(closed: &[u16], node: u16) -> bool
     stands
 }
 
-// 12, at the entry k of the list.
+// 12, at the entry k of the list, if there is such an entry.
 fn closed_fault(nodes: usize, closed: &[u16], k: usize) -> bool
-    requires { ⌜ k < length (now closed) ⌝ }
-    ensures { λ r. ⌜ Answers r (ClosedFault nodes (now (closed .entry)) k) ⌝ }
+    ensures { λ r. ⌜ Answers r
+        ((k < length (now (closed .entry))) × ClosedFault nodes (now (closed .entry)) k) ⌝ }
 {
-    let node = wide(closed[k]);
-    if node >= nodes {
+    if k >= closed.len() {
+        return false;
+    }
+    let node = number_at(closed, k);
+    if node as usize >= nodes {
         return true;
     }
     if k == 0 {
         return false;
     }
-    let before = wide(closed[k - 1]);
+    let before = number_at(closed, k - 1);
     if before < node {
         return false;
     }
@@ -56,26 +58,8 @@ fn closed_fault(nodes: usize, closed: &[u16], k: usize) -> bool
 pub fn check_closed_node(nodes: usize, closed: &[u16], k: usize) -> Checked
     ensures { λ r. ⌜ Judged (only-at k (eachClosed nodes (now (closed .entry)))) r ⌝ }
 {
-    if k < closed.len() {
-        if closed_fault(nodes, closed, k) {
-            return refused(Fault::BadClosed, k);
-        }
-    }
-    Checked::Sound
-}
-
-// 12, entry by entry.
-pub fn check_closed(nodes: usize, closed: &[u16]) -> Checked
-    ensures { λ r. ⌜ Judged (eachClosed nodes (now (closed .entry)) ∷ []) r ⌝ }
-{
-    let count = closed.len();
-    let mut k: usize = 0;
-    while k < count {
-        let one = check_closed_node(nodes, closed, k);
-        if let Checked::Refused(_) = one {
-            return one;
-        }
-        k += 1;
+    if closed_fault(nodes, closed, k) {
+        return refused(Fault::BadClosed, k);
     }
     Checked::Sound
 }

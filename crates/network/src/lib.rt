@@ -2,4 +2,5 @@
 // it, an order over them and a dwell are sound, and whether a node is closed.
 pub mod checks;
 pub mod closed;
+pub mod entries;
 pub mod lanes;

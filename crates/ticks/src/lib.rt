@@ -20,7 +20,8 @@ use hall::Carrier;
 use hall::Checked;
 use hall::Job;
 use hall::Place;
-use network::checks::check_order;
+use network::entries::Entries;
+use network::entries::check_each;
 use rule::first_tick;
 
 // What is answered: the cost, or that the input is none of those served.
@@ -193,7 +194,7 @@ fn served(table: &[u16], order: &[u16], dwell: usize, room: usize) -> bool
     if dwell > Job::DWELL {
         return false;
     }
-    let judged = check_order(count, order);
+    let judged = check_each(Entries::Places, 0, count, order, order);
     match judged {
         Checked::Sound => true,
         Checked::Refused(_) => false,

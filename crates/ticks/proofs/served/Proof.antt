@@ -27,8 +27,8 @@ returns-3 c = search needs
 returns-4 : tie.Need-returns-4
 returns-4 c = search needs
 
-check-order-requires : tie.Need-check-order-requires
-check-order-requires c κs = search needs
+check-each-requires : tie.Need-check-each-requires
+check-each-requires c κs = search needs
 
 enum-told : tie.Need-enum-told
 enum-told c = search needs
@@ -39,7 +39,7 @@ enum-told-2 c = search needs
 returns-5 : tie.Need-returns-5
 returns-5 c =
     let start = c .before .before .before .before .before .before .before .before .before in
-    let check = c .before .before .check-order in
+    let check = c .before .before .check-each in
     record {
       listed = record {
         whole-table = omega arith;
@@ -53,7 +53,7 @@ returns-5 c =
 returns-6 : tie.Need-returns-6
 returns-6 c =
     let start = c .before .before .before .before .before .before .before .before .before in
-    let check = c .before .before .check-order in
+    let check = c .before .before .check-each in
     let first = refused-first (asked-order start) (c .enum-told2 .given .1) (check .ensures) in
     λ s. none-excludes first (s .listed .sound-order)
 
@@ -65,7 +65,7 @@ served-spec =
     returns-2
     returns-3
     returns-4
-    check-order-requires
+    check-each-requires
     enum-told
     enum-told-2
     returns-5

@@ -53,7 +53,7 @@ lanes-passed c =
     let sound = checked .before in
     let j = job (begun sound) in
     none-append (counts-passed sound)
-    (sound-none (lanes-of j) (c .enum-told4 .given .1) (checked .check-lanes .ensures))
+    (sound-none (lanes-of j) (c .enum-told4 .given .1) (checked .check-each .ensures))
 
 closed-passed : (c : tie.After-enum-told6) →
     let j = job (begun (c .before .before .before .before .before .before)) in
@@ -63,7 +63,7 @@ closed-passed c =
     let sound = checked .before in
     let j = job (begun (sound .before .before .before)) in
     none-append (lanes-passed sound)
-    (sound-none (closed-of j) (c .enum-told6 .given .1) (checked .check-closed .ensures))
+    (sound-none (closed-of j) (c .enum-told6 .given .1) (checked .check-each2 .ensures))
 
 moves-passed : (c : tie.After-enum-told8) →
     let j = job (begun (c .before .before .before .before .before .before .before .before .before)) in
@@ -73,7 +73,7 @@ moves-passed c =
     let sound = checked .before in
     let j = job (begun (sound .before .before .before .before .before .before)) in
     none-append (closed-passed sound)
-    (sound-none (moves-of j) (c .enum-told8 .given .1) (checked .check-moves .ensures))
+    (sound-none (moves-of j) (c .enum-told8 .given .1) (checked .check-each3 .ensures))
 
 check-counts-requires : tie.Need-check-counts-requires
 check-counts-requires c κs = search needs
@@ -92,8 +92,8 @@ returns c =
 enum-told-2 : tie.Need-enum-told-2
 enum-told-2 c = search needs
 
-check-lanes-requires : tie.Need-check-lanes-requires
-check-lanes-requires c κs = search needs
+check-each-requires : tie.Need-check-each-requires
+check-each-requires c κs = search needs
 
 enum-told-3 : tie.Need-enum-told-3
 enum-told-3 c = search needs
@@ -105,14 +105,14 @@ returns-2 c =
     let j = job (begun sound) in
     judged-stop (counted-by j ++ lanes-of j) (closed-of j ++ (moves-of j ++ order-of j))
     (c .enum-told3 .given .1)
-    (judged-after (counted-by j) (lanes-of j) (counts-passed sound) (checked .check-lanes .result)
-    (checked .check-lanes .ensures))
+    (judged-after (counted-by j) (lanes-of j) (counts-passed sound) (checked .check-each .result)
+    (checked .check-each .ensures))
 
 enum-told-4 : tie.Need-enum-told-4
 enum-told-4 c = search needs
 
-check-closed-requires : tie.Need-check-closed-requires
-check-closed-requires c κs = search needs
+check-each-requires-2 : tie.Need-check-each-requires-2
+check-each-requires-2 c κs = search needs
 
 enum-told-5 : tie.Need-enum-told-5
 enum-told-5 c = search needs
@@ -124,14 +124,14 @@ returns-3 c =
     let j = job (begun (sound .before .before .before)) in
     let before = counted-by j ++ lanes-of j in
     judged-stop (before ++ closed-of j) (moves-of j ++ order-of j) (c .enum-told5 .given .1)
-    (judged-after before (closed-of j) (lanes-passed sound) (checked .check-closed .result)
-    (checked .check-closed .ensures))
+    (judged-after before (closed-of j) (lanes-passed sound) (checked .check-each2 .result)
+    (checked .check-each2 .ensures))
 
 enum-told-6 : tie.Need-enum-told-6
 enum-told-6 c = search needs
 
-check-moves-requires : tie.Need-check-moves-requires
-check-moves-requires c κs = search needs
+check-each-requires-3 : tie.Need-check-each-requires-3
+check-each-requires-3 c κs = search needs
 
 enum-told-7 : tie.Need-enum-told-7
 enum-told-7 c = search needs
@@ -143,14 +143,14 @@ returns-4 c =
     let j = job (begun (sound .before .before .before .before .before .before)) in
     let before = (counted-by j ++ lanes-of j) ++ closed-of j in
     judged-stop (before ++ moves-of j) (order-of j) (c .enum-told7 .given .1)
-    (judged-after before (moves-of j) (closed-passed sound) (checked .check-moves .result)
-    (checked .check-moves .ensures))
+    (judged-after before (moves-of j) (closed-passed sound) (checked .check-each3 .result)
+    (checked .check-each3 .ensures))
 
 enum-told-8 : tie.Need-enum-told-8
 enum-told-8 c = search needs
 
-check-order-requires : tie.Need-check-order-requires
-check-order-requires c κs = search needs
+check-each-requires-4 : tie.Need-check-each-requires-4
+check-each-requires-4 c κs = search needs
 
 returns-5 : tie.Need-returns-5
 returns-5 c =
@@ -158,8 +158,8 @@ returns-5 c =
     let j = job (begun (sound .before .before .before .before .before .before .before .before .before)) in
     judged-after (((counted-by j ++ lanes-of j) ++ closed-of j) ++ moves-of j) (order-of j)
     (moves-passed sound)
-    (c .check-order .result)
-    (c .check-order .ensures)
+    (c .check-each4 .result)
+    (c .check-each4 .ensures)
 
 pub check-job-spec : {M : Type 1} → statement M
 check-job-spec =
@@ -169,17 +169,17 @@ check-job-spec =
     enum-told
     returns
     enum-told-2
-    check-lanes-requires
+    check-each-requires
     enum-told-3
     returns-2
     enum-told-4
-    check-closed-requires
+    check-each-requires-2
     enum-told-5
     returns-3
     enum-told-6
-    check-moves-requires
+    check-each-requires-3
     enum-told-7
     returns-4
     enum-told-8
-    check-order-requires
+    check-each-requires-4
     returns-5)

@@ -1,6 +1,5 @@
--- `network::checks::check_place` meets its contract: an entry of the order is refused or sound as
--- `order_fault` answers, and one that is not there has no fault. Assumes nothing.
-use native.Mathlib.Omega.{arith}
+-- `network::checks::check_place` meets its contract: an entry is refused or sound as `order_fault` answers.
+-- Assumes nothing.
 use borrow.Author.Needs.{needs}
 use Rattle.hall.proofs.Answers.{affirmed, denied}
 use Rattle.hall.proofs.Compose.{answered, none-at-all}
@@ -17,17 +16,10 @@ refused-requires c κs = search needs
 returns : tie.Need-returns
 returns c =
     let told = c .before in
-    let faulty = affirmed _ (told .if2 .taken) (told .before .order-fault .ensures) in
-    answered (c .refused .ensures) (asked-here (told .before .before .if1 .taken, faulty))
+    answered (c .refused .ensures) (asked-here (affirmed _ (told .if1 .taken) (told .before .order-fault .ensures)))
 
 returns-2 : tie.Need-returns-2
-returns-2 c =
-    let sound = denied _ (c .if2 .left) (c .before .order-fault .ensures) in
-    asked-clear (λ x. sound (x .1)) none-at-all
-
-returns-3 : tie.Need-returns-3
-returns-3 c = asked-clear (λ x. omega (arith, x .0)) none-at-all
+returns-2 c = asked-clear (denied _ (c .if1 .left) (c .before .order-fault .ensures)) none-at-all
 
 pub check-place-spec : {M : Type 1} → statement M
-check-place-spec =
-    tie.close (tie.spec order-fault-requires refused-requires returns returns-2 returns-3)
+check-place-spec = tie.close (tie.spec order-fault-requires refused-requires returns returns-2)

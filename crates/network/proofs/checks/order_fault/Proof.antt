@@ -6,48 +6,59 @@ use Prim.Native.Nat.{ℕ, _-_, _≤_, _<_}
 use native.Mathlib.Omega.{arith}
 use borrow.Author.Needs.{needs}
 use borrow.Author.Count.{below-more}
-use lib.ListN.{getD}
+use lib.ListN.{length, getD}
 use Rattle.hall.specs.Refusals.{BadOrder-at, no-carrier, stands-earlier}
 use Rattle.network.proofs.checks.order_fault.Statement.{statement}
 use Rattle.network.proofs.checks.order_fault.Tie as tie
 
--- a carrier's number that no entry before it is
-entry-sound : (count : ℕ) (order : List ℕ) (p number : ℕ) →
-    number ≡ getD order p 0 →
-    number < count →
-    ((q : ℕ) → q < p → ¬ (getD order q 0 ≡ getD order p 0)) →
-    ¬ BadOrder-at count order p
-entry-sound count order p number e l before (no-carrier h) = omega arith
-entry-sound count order p number e l before (stands-earlier {q = q} m same) = before q m same
+-- a number that is no carrier's, and a carrier's number that no entry before it is
+module _ (count : ℕ) (order : List ℕ) (p number : ℕ) (e : number ≡ getD order p 0) where
+  entry-bad : p < length order → count ≤ number → (p < length order) × BadOrder-at count order p
+  entry-bad inside l = (inside, no-carrier (omega arith))
+
+  entry-sound : number < count → (q : ℕ) → p ≤ q → ((j : ℕ) → j < q → ¬ (getD order j 0 ≡ number)) →
+      ¬ ((p < length order) × BadOrder-at count order p)
+  entry-sound l q m before f = cases (f .1)
+    where
+      cases : ¬ BadOrder-at count order p
+      cases (no-carrier h) = omega arith
+      cases (stands-earlier {q = j} h same) = before j (omega arith) (same ∙ sym e)
 
 abbrev Inv-loop : tie.InvT-loop
-Inv-loop carriers order p carrier number q₀ q = (q ≤ p) × ((j : ℕ) → j < q → ¬ (getD order j 0 ≡ carrier .0))
+Inv-loop carriers order p carrier q₀ q = (q ≤ p) × ((j : ℕ) → j < q → ¬ (getD order j 0 ≡ carrier))
 
 abbrev μ-loop : tie.MeasureT-loop
-μ-loop carriers order p carrier number q₀ q = p - q
-
-carrier-requires : tie.Need-carrier-requires Inv-loop μ-loop
-carrier-requires c κs = search needs
-
-wide-requires : tie.Need-wide-requires Inv-loop μ-loop
-wide-requires c κs = search needs
+μ-loop carriers order p carrier q₀ q = p - q
 
 returns : tie.Need-returns Inv-loop μ-loop
-returns c = no-carrier (omega arith)
+returns c = search needs
+
+number-at-requires : tie.Need-number-at-requires Inv-loop μ-loop
+number-at-requires c κs = search needs
+
+cast-if2 : tie.Need-cast-if2 Inv-loop μ-loop
+cast-if2 c = search needs
+
+returns-2 : tie.Need-returns-2 Inv-loop μ-loop
+returns-2 c =
+    let read = c .before in
+    let args = read .before .before .before .args in
+    entry-bad (args .carriers) (args .order .now) (args .p) (read .number-at .result) (read .number-at .ensures)
+    (read .before .if1 .left)
+    (c .if2 .taken)
 
 loop-holds : tie.Need-loop-holds Inv-loop μ-loop
 loop-holds c = (omega arith, λ j l e. omega arith)
 
-carrier-requires-2 : tie.Need-carrier-requires-2 Inv-loop μ-loop
-carrier-requires-2 c κs = search needs
+number-at-requires-2 : tie.Need-number-at-requires-2 Inv-loop μ-loop
+number-at-requires-2 c κs = search needs
 
-returns-2 : tie.Need-returns-2 Inv-loop μ-loop
-returns-2 c =
-    let entry = c .before .before .before in
-    let loop = entry .before .before in
-    let own = loop .before .before .before in
-    stands-earlier {q = loop .loop .q} (entry .before .loop-test .taken)
-    (sym (entry .carrier2 .ensures) ∙ c .if2 .taken ∙ own .carrier .ensures)
+returns-3 : tie.Need-returns-3 Inv-loop μ-loop
+returns-3 c =
+    let earlier = c .before in
+    let read = earlier .before .before .before .before in
+    let same = sym (earlier .number-at2 .ensures) ∙ c .if3 .taken ∙ read .number-at .ensures in
+    (read .before .if1 .left, stands-earlier (earlier .before .loop-test .taken) same)
 
 add-q : tie.Need-add-q Inv-loop μ-loop
 add-q c = search needs
@@ -57,21 +68,20 @@ loop-less c = search needs
 
 loop-again : tie.Need-loop-again Inv-loop μ-loop
 loop-again c =
-    let entry = c .before .before .before in
-    let loop = entry .before .before in
-    let read = entry .carrier2 .ensures in
-    (omega arith, below-more _ _ (loop .loop .inv .1) (λ same. c .if2 .left (read ∙ same)))
+    let earlier = c .before in
+    let passed = earlier .before .before .loop .inv .1 in
+    (omega arith, below-more _ _ passed (λ same. c .if3 .left (earlier .number-at2 .ensures ∙ same)))
 
-returns-3 : tie.Need-returns-3 Inv-loop μ-loop
-returns-3 c =
+returns-4 : tie.Need-returns-4 Inv-loop μ-loop
+returns-4 c =
     let loop = c .before in
     let read = loop .before .before in
-    let own = read .before .carrier .ensures in
     let args = read .before .before .before .args in
-    entry-sound (args .carriers) (args .order .now) (args .place .0) (read .wide .result)
-    (read .wide .ensures ∙ own)
-    (loop .before .if1 .left)
-    (λ q l e. loop .loop .inv .1 q (omega (arith, c .loop-test .left)) (e ∙ sym own))
+    entry-sound (args .carriers) (args .order .now) (args .p) (read .number-at .result) (read .number-at .ensures)
+    (loop .before .if2 .left)
+    (loop .loop .q)
+    (c .loop-test .left)
+    (loop .loop .inv .1)
 
 pub order-fault-spec : {M : Type 1} → statement M
 order-fault-spec =
@@ -79,13 +89,14 @@ order-fault-spec =
     (tie.spec
     Inv-loop
     μ-loop
-    carrier-requires
-    wide-requires
     returns
-    loop-holds
-    carrier-requires-2
+    number-at-requires
+    cast-if2
     returns-2
+    loop-holds
+    number-at-requires-2
+    returns-3
     add-q
     loop-less
     loop-again
-    returns-3)
+    returns-4)

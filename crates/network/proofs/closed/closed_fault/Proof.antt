@@ -6,79 +6,77 @@ use Rattle.network.proofs.ClosedList.{rising-entry-sound, falling-entry
 use Rattle.network.proofs.closed.closed_fault.Statement.{statement}
 use Rattle.network.proofs.closed.closed_fault.Tie as tie
 
-mul-wide : tie.Need-mul-wide
-mul-wide c = search needs
-
-shared-slice-read-wide : tie.Need-shared-slice-read-wide
-shared-slice-read-wide c = search needs
-
-wide-requires : tie.Need-wide-requires
-wide-requires c κs = search needs
-
 returns : tie.Need-returns
-returns c =
-    let read = c .before in
-    let args = read .before .before .before .args in
-    no-node-bad (args .nodes) (args .closed .now) (args .k) (read .wide .result) (read .wide .ensures)
-    (c .if1 .taken)
+returns c = search needs
+
+number-at-requires : tie.Need-number-at-requires
+number-at-requires c κs = search needs
+
+cast-if2 : tie.Need-cast-if2
+cast-if2 c = search needs
 
 returns-2 : tie.Need-returns-2
 returns-2 c =
-    let read = c .before .before in
+    let read = c .before in
     let args = read .before .before .before .args in
-    first-entry-sound (args .nodes) (args .closed .now) (args .k) (read .wide .result) (read .wide .ensures)
-    (c .before .if1 .left)
+    no-node-bad (args .nodes) (args .closed .now) (args .k) (read .number-at .result) (read .before .if1 .left)
+    (read .number-at .ensures)
     (c .if2 .taken)
-
-sub-wide : tie.Need-sub-wide
-sub-wide c = search needs
-
-mul-wide-2 : tie.Need-mul-wide-2
-mul-wide-2 c = search needs
-
-shared-slice-read-wide-2 : tie.Need-shared-slice-read-wide-2
-shared-slice-read-wide-2 c = search needs
-
-wide-requires-2 : tie.Need-wide-requires-2
-wide-requires-2 c κs = search needs
 
 returns-3 : tie.Need-returns-3
 returns-3 c =
-    let earlier = c .before in
-    let later = earlier .before .before in
-    let read = later .before .before in
+    let read = c .before .before in
     let args = read .before .before .before .args in
-    rising-entry-sound (args .nodes) (args .closed .now) (args .k) (read .wide .result) (read .wide .ensures)
-    (earlier .wide2 .result)
-    (earlier .wide2 .ensures)
-    (later .if2 .left)
-    (later .before .if1 .left)
+    first-entry-sound (args .nodes) (args .closed .now) (args .k) (read .number-at .result)
+    (read .before .if1 .left)
+    (read .number-at .ensures)
+    (c .before .if2 .left)
     (c .if3 .taken)
+
+sub-number-at : tie.Need-sub-number-at
+sub-number-at c = search needs
+
+number-at-requires-2 : tie.Need-number-at-requires-2
+number-at-requires-2 c κs = search needs
 
 returns-4 : tie.Need-returns-4
 returns-4 c =
     let earlier = c .before in
-    let later = earlier .before .before in
+    let later = earlier .before in
     let read = later .before .before in
     let args = read .before .before .before .args in
-    falling-entry-bad (args .nodes) (args .closed .now) (args .k) (read .wide .result) (read .wide .ensures)
-    (earlier .wide2 .result)
-    (earlier .wide2 .ensures)
-    (later .if2 .left)
-    (c .if3 .left)
+    rising-entry-sound (args .nodes) (args .closed .now) (args .k) (read .number-at .result)
+    (read .before .if1 .left)
+    (read .number-at .ensures)
+    (earlier .number-at2 .result)
+    (earlier .number-at2 .ensures)
+    (later .before .if2 .left)
+    (c .if4 .taken)
+
+returns-5 : tie.Need-returns-5
+returns-5 c =
+    let earlier = c .before in
+    let later = earlier .before in
+    let read = later .before .before in
+    let args = read .before .before .before .args in
+    falling-entry-bad (args .nodes) (args .closed .now) (args .k) (read .number-at .result)
+    (read .before .if1 .left)
+    (read .number-at .ensures)
+    (earlier .number-at2 .result)
+    (earlier .number-at2 .ensures)
+    (later .if3 .left)
+    (c .if4 .left)
 
 pub closed-fault-spec : {M : Type 1} → statement M
 closed-fault-spec =
     tie.close
     (tie.spec
-    mul-wide
-    shared-slice-read-wide
-    wide-requires
     returns
+    number-at-requires
+    cast-if2
     returns-2
-    sub-wide
-    mul-wide-2
-    shared-slice-read-wide-2
-    wide-requires-2
     returns-3
-    returns-4)
+    sub-number-at
+    number-at-requires-2
+    returns-4
+    returns-5)

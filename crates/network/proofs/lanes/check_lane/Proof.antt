@@ -1,6 +1,5 @@
--- `network::lanes::check_lane` meets its contract: a lane of the list is refused or sound as `lane_fault`
--- answers, and one that is not there has no fault. Assumes nothing.
-use native.Mathlib.Omega.{arith}
+-- `network::lanes::check_lane` meets its contract: an entry is refused or sound as `lane_fault` answers.
+-- Assumes nothing.
 use borrow.Author.Needs.{needs}
 use Rattle.hall.proofs.Answers.{affirmed, denied}
 use Rattle.hall.proofs.Compose.{answered, none-at-all}
@@ -17,17 +16,10 @@ refused-requires c κs = search needs
 returns : tie.Need-returns
 returns c =
     let told = c .before in
-    let faulty = affirmed _ (told .if2 .taken) (told .before .lane-fault .ensures) in
-    answered (c .refused .ensures) (asked-here (told .before .before .if1 .taken, faulty))
+    answered (c .refused .ensures) (asked-here (affirmed _ (told .if1 .taken) (told .before .lane-fault .ensures)))
 
 returns-2 : tie.Need-returns-2
-returns-2 c =
-    let sound = denied _ (c .if2 .left) (c .before .lane-fault .ensures) in
-    asked-clear (λ x. sound (x .1)) none-at-all
-
-returns-3 : tie.Need-returns-3
-returns-3 c = asked-clear (λ x. omega (arith, x .0)) none-at-all
+returns-2 c = asked-clear (denied _ (c .if1 .left) (c .before .lane-fault .ensures)) none-at-all
 
 pub check-lane-spec : {M : Type 1} → statement M
-check-lane-spec =
-    tie.close (tie.spec lane-fault-requires refused-requires returns returns-2 returns-3)
+check-lane-spec = tie.close (tie.spec lane-fault-requires refused-requires returns returns-2)
