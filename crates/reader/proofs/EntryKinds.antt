@@ -27,10 +27,11 @@ use Rattle.form.specs.Words.{NODES}
 use Rattle.form.specs.Entries.{checksOf}
 use Rattle.form.proofs.WholeChecks.{Steady}
 use Rattle.form.proofs.Checks.{lanes-steady, closed-steady, carriers-steady, order-steady}
-use Rattle.reader.specs.declared.lines.Entries.{Entries}
-use Rattle.reader.specs.declared.lines.Entries.the-variants.{Lanes, Closed, Moves, Places}
-use Rattle.reader.proofs.lines.Entries as entries
-use Rattle.reader.specs.Entries.{Asks, sectionOf, checksIn, placesIn}
+use Rattle.network.specs.declared.entries.Entries.{Entries}
+use Rattle.network.specs.declared.entries.Entries.the-variants.{Lanes, Closed, Moves, Places}
+use Rattle.network.proofs.entries.Entries as entries
+use Rattle.network.specs.Entries.{placesIn, eachIn}
+use Rattle.reader.specs.Entries.{Asks, sectionOf}
 
 pub one-number : (which : Entries) → OneOf (1 ∷ 3 ∷ []) (tagOf entries.the-type which)
     → sectionOf which .size ≡ 1
@@ -79,7 +80,7 @@ further-numbers Places k n h = omega arith
 pub judged-by-form : (which : Entries) (job : Job) (closed : List ℕ) (read : List Content) (table : List ℕ)
     (k : ℕ) (c : Checked)
     → Asks (sectionOf which .entry) job closed read
-    → Judged (only-at k (at-each (placesIn which table) (checksIn which job closed table))) c
+    → Judged (only-at k (eachIn which (job .nodes) (job .carriers) closed table)) c
     → Judged (only-at k (at-each (placesIn which table) (checksOf (sectionOf which .entry) read table))) c
 judged-by-form Lanes job closed read table k c e j =
     subst (λ (n : ℕ). Judged (only-at k (at-each (laneCount table) (laneChecks n table))) c) e j

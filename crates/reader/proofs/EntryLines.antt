@@ -4,9 +4,9 @@
 -- form alone. The measure is how many lines are left. Assumes nothing.
 --     stored-one, stored-two, not-stored    an entry's line was taken and its numbers stored, or there is
 --                         none
---     entry-passes, entry-fails, entry-lacks    the line of an entry, by the answer of its checks
 --     LinesRead           the invariant: k lines were read
---     lines-begin, lines-next, lines-refused, lines-end    how it begins, goes on and ends
+--     lines-begin, lines-next, lines-end    how it begins, goes on and ends
+--     lines-lack, lines-fail    a line has not the form of an entry, or fails a check
 --     line-after          behind a line to which the form leads, the line is one more: it is below the limit
 --                         up to which a cursor counts
 use mathlib.Core.Path.{_≡_, refl, sym, _∙_, ap, subst}
@@ -21,7 +21,7 @@ use Rattle.hall.specs.declared.Job.{Job}
 use Rattle.hall.specs.declared.Refusal.{Refusal}
 use Rattle.hall.specs.declared.Checked.{Checked}
 use Rattle.hall.specs.declared.Checked.the-variants.{Sound}
-use Rattle.hall.specs.Stages.{only-at, at-each}
+use Rattle.hall.specs.Stages.{only-at}
 use Rattle.hall.specs.Said.{Judged}
 use Rattle.form.specs.Lines.{Entered}
 use Rattle.form.specs.Sections.{Form, Content}
@@ -33,12 +33,12 @@ use Rattle.form.proofs.Tables.{stores-one, stores-two}
 use Rattle.form.proofs.Lengths.{reached-within}
 use Rattle.form.proofs.JobTexts.{job-room}
 use Rattle.cursor.specs.declared.Cursor.{Cursor}
-use Rattle.reader.specs.declared.lines.Entries.{Entries}
-use Rattle.reader.specs.declared.lines.Passed.{Passed}
+use Rattle.cursor.specs.declared.Stepped.{Stepped}
+use Rattle.network.specs.declared.entries.Entries.{Entries}
 use Rattle.reader.specs.declared.lines.Progress.{Progress}
 use Rattle.cursor.specs.Steps.{lineLimit, EntryTaken}
-use Rattle.reader.specs.Entries.{RefusedBy, Asks, sectionOf, checksIn, placesIn, EntryStored}
-use Rattle.reader.specs.Entries.{EntryRead, EntriesRead}
+use Rattle.network.specs.Entries.{placesIn, eachIn}
+use Rattle.reader.specs.Entries.{Asks, sectionOf, EntryStored, EntriesRead}
 use Rattle.reader.proofs.EntryKinds.{due-is, steady, has-place, further-numbers, judged-by-form}
 
 -- ---- the next line
@@ -51,7 +51,7 @@ line-after r e = omega (arith, reached-within jobText r, job-room)
 
 module _ (text : List ℕ) (k : ℕ) (here : Cursor) (table : List ℕ) where
   pub stored-one : (a : ℕ) (next : Cursor) → EntryTaken text here (a ∷ []) next → k < length table
-      → EntryStored text 1 k here table (set table k a) (Passed.On next)
+      → EntryStored text 1 k here table (set table k a) (Stepped.On next)
   stored-one a next x h = record {
     answer = record {
       entered = x .taken;
@@ -63,7 +63,7 @@ module _ (text : List ℕ) (k : ℕ) (here : Cursor) (table : List ℕ) where
 
   pub stored-two : (a b : ℕ) (next : Cursor) → EntryTaken text here (a ∷ b ∷ []) next
       → 2 * k + 1 < length table
-      → EntryStored text 2 k here table (set (set table (2 * k) a) (2 * k + 1) b) (Passed.On next)
+      → EntryStored text 2 k here table (set (set table (2 * k) a) (2 * k + 1) b) (Stepped.On next)
   stored-two a b next x h = record {
     answer = record {
       entered = x .taken;
@@ -74,50 +74,9 @@ module _ (text : List ℕ) (k : ℕ) (here : Cursor) (table : List ℕ) where
         ∙ drop-set-lt (2 * suc k) table (2 * k) a (omega arith);
   }
 
-  pub not-stored : (size : ℕ) (q : Refusal) → q ≡ record { fault = Malformed; place = here .line }
-      → ¬ Entered size (drop (here .at) text) → EntryStored text size k here table table (Passed.Refused q)
-  not-stored size q e none = record { answer = (e, none); kept = refl }
-
--- ---- its checks
-
-module _ (text : List ℕ) (which : Entries) (job : Job) (closed : List ℕ) (k : ℕ) (here : Cursor)
-    (before after : List ℕ) where
-  pub entry-lacks : (q : Refusal)
-      → EntryStored text (sectionOf which .size) k here before after (Passed.Refused q)
-      → EntryRead text which job closed k here before after (Passed.Refused q)
-  entry-lacks q st = record {
-    reads = λ read count left asks inside x.
-        subst (RefusedBy text) (sym (st .answer .0))
-        (collected-lacking jobText text read (sectionOf which) count left x (rw (due-is which count) inside)
-        (st .answer .1));
-    kept = st .kept;
-  }
-
-  module _ (next : Cursor)
-      (st : EntryStored text (sectionOf which .size) k here before after (Passed.On next))
-      (room : sectionOf which .size * suc k ≤ length after) (c : Checked)
-      (judged : Judged (only-at k (at-each (placesIn which after) (checksIn which job closed after))) c) where
-    pub entry-passes : c ≡ Sound → EntryRead text which job closed k here before after (Passed.On next)
-    entry-passes e = record {
-      reads = λ read count left asks inside x.
-          rw (← st .answer .behind .is-rest, line-after (x .reached) (st .answer .behind .next-line))
-          (checked-entry jobText text read (sectionOf which) count left x (rw (due-is which count) inside)
-          (st .answer .entered) after (st .answer .stores) (steady which) (placesIn which after)
-          (has-place which after k room) e (judged-by-form which job closed read after k c asks judged));
-      kept = st .kept;
-    }
-
-    pub entry-fails : (r q : Refusal) → c ≡ Checked.Refused r
-        → q ≡ record { fault = r .fault; place = here .line }
-        → EntryRead text which job closed k here before after (Passed.Refused q)
-    entry-fails r q e at-line = record {
-      reads = λ read count left asks inside x.
-          subst (RefusedBy text) (sym at-line)
-          (checked-refused jobText text read (sectionOf which) count left x (rw (due-is which count) inside)
-          (st .answer .entered) after (st .answer .stores) (steady which) (placesIn which after)
-          (has-place which after k room) e (judged-by-form which job closed read after k c asks judged));
-      kept = st .kept;
-    }
+  pub not-stored : (size : ℕ) → ¬ Entered size (drop (here .at) text)
+      → EntryStored text size k here table table Stepped.Bad
+  not-stored size none = record { answer = none; kept = refl }
 
 -- ---- all lines
 
@@ -155,7 +114,7 @@ module _ (text : List ℕ) (which : Entries) (job : Job) (closed : List ℕ) (co
     room-here h room = omega (arith, further-numbers which (suc k) count h, l .size)
 
     pub lines-end : count ≤ k
-        → EntriesRead text which job closed count from before after (Progress.On (record { job = job; next = here }))
+        → EntriesRead text which job closed count from before after (Progress.On job here)
     lines-end h = record {
       reads = λ read left asks r.
           let e : k ≡ count = omega (arith, l .few) in
@@ -170,20 +129,46 @@ module _ (text : List ℕ) (which : Entries) (job : Job) (closed : List ℕ) (co
           drop-further (sectionOf which .size * suc k) (sectionOf which .size * count) after′ after
           (further-numbers which (suc k) count inside) e ∙ l .kept
 
-      pub lines-next : (next : Cursor) → length after′ ≡ length after
-          → EntryRead text which job closed k here after after′ (Passed.On next)
-          → LinesRead text which job closed count from before after′ next (k + 1)
-      lines-next next same x = record {
-        collected = λ read left asks r. rw (add-one k)
-            (x .reads read count left asks inside (l .collected read left asks r));
-        kept = still-kept (x .kept);
-        few = omega arith;
-        size = same ∙ l .size;
-      }
+      pub lines-lack : (q : Progress)
+          → q ≡ Progress.Refused (record { fault = Malformed; place = here .line })
+          → EntryStored text (sectionOf which .size) k here after after′ Stepped.Bad
+          → EntriesRead text which job closed count from before after′ q
+      lines-lack q e st = rw e (record {
+        reads = λ read left asks r.
+            collected-lacking jobText text read (sectionOf which) count left (l .collected read left asks r)
+            (rw (due-is which count) inside) (st .answer);
+        kept = still-kept (st .kept);
+      })
 
-      pub lines-refused : (q : Refusal) → EntryRead text which job closed k here after after′ (Passed.Refused q)
-          → EntriesRead text which job closed count from before after′ (Progress.Refused q)
-      lines-refused q x = record {
-        reads = λ read left asks r. x .reads read count left asks inside (l .collected read left asks r);
-        kept = still-kept (x .kept);
-      }
+      -- an entry was stored, and its checks were asked
+      module _ (next : Cursor)
+          (st : EntryStored text (sectionOf which .size) k here after after′ (Stepped.On next))
+          (room : sectionOf which .size * suc k ≤ length after′) (c : Checked)
+          (judged : Judged (only-at k (eachIn which (job .nodes) (job .carriers) closed after′)) c) where
+        pub lines-fail : (r : Refusal) → c ≡ Checked.Refused r
+            → (q : Progress) → q ≡ Progress.Refused (record { fault = r .fault; place = here .line })
+            → EntriesRead text which job closed count from before after′ q
+        lines-fail r e q at-line = rw at-line (record {
+          reads = λ read left asks x.
+              checked-refused jobText text read (sectionOf which) count left (l .collected read left asks x)
+              (rw (due-is which count) inside) (st .answer .entered) after′ (st .answer .stores)
+              (steady which) (placesIn which after′) (has-place which after′ k room) e
+              (judged-by-form which job closed read after′ k c asks judged);
+          kept = still-kept (st .kept);
+        })
+
+        pub lines-next : c ≡ Sound → length after′ ≡ length after
+            → LinesRead text which job closed count from before after′ next (k + 1)
+        lines-next e same = record {
+          collected = λ read left asks r.
+              let x = l .collected read left asks r in
+              let behind = st .answer .behind in
+              rw (add-one k, ← behind .is-rest, line-after (x .reached) (behind .next-line))
+              (checked-entry jobText text read (sectionOf which) count left x (rw (due-is which count) inside)
+              (st .answer .entered) after′ (st .answer .stores) (steady which) (placesIn which after′)
+              (has-place which after′ k room) e
+              (judged-by-form which job closed read after′ k c asks judged));
+          kept = still-kept (st .kept);
+          few = omega arith;
+          size = same ∙ l .size;
+        }

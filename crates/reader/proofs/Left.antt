@@ -1,31 +1,39 @@
--- What reading leaves in the tables. Each is zero up to its least length before the text is read, so that
+-- What reading leaves in the tables. Each is zero up to its least length before its section is read, so that
 -- numbers laid into it have zeros behind them; what is beyond the least length is never touched, so that
--- zeroing once more after a refusal leaves the table as zeroing it at once would have. Assumes nothing.
+-- zeroing after a refusal leaves the table as zeroing it at once would have. Assumes nothing.
+--     beyond-zeroed    a zeroed table is as it was from the least length on
 --     laid-filled      numbers laid into a zeroed table fill it
---     zeroed-again     a table that differs from a zeroed one below the least length only is the same, once
---                      it is zeroed
+--     zeroed-again     a table that differs from another below the least length only is the same, once both
+--                      are zeroed
 use mathlib.Core.Path.{_≡_, sym, _∙_, ap}
 use mathlib.Core.List.{List, _++_}
 use Prim.Native.Nat.{ℕ, _-_, _≤_}
 use native.Mathlib.Omega.{arith}
-use lib.ListN.{length, drop, replicate}
+use lib.ListN.{length, take, drop, replicate, take-append-drop}
+use lib.Seq.{length-take-le}
 use Rattle.hall.specs.Left.{zeroed, filled}
 use Rattle.hall.proofs.Left.{drop-zeroed}
-use Rattle.reader.specs.Text.{LaidIn}
 
 module _ (least : ℕ) (table : List ℕ) (long : least ≤ length table) where
-  pub laid-filled : (numbers after : List ℕ) → LaidIn numbers least (zeroed least table) after
+  pub beyond-zeroed : drop least (zeroed least table) ≡ drop least table
+  beyond-zeroed =
+      let none : least - least ≡ 0 = omega arith in
+      rw none at (drop-zeroed least least table (omega arith) long)
+
+  pub laid-filled : (many : ℕ) (numbers after : List ℕ) → many ≤ least → many ≤ length after
+      → numbers ≡ take many after → drop many after ≡ drop many (zeroed least table)
       → after ≡ filled numbers least table
   unfolding filled
-  laid-filled numbers after x =
-      x .laid ∙ ap (λ (l : List ℕ). numbers ++ l) (drop-zeroed (length numbers) least table (x .fits) long)
+  laid-filled many numbers after few room stored kept =
+      let size : length numbers ≡ many = ap length stored ∙ length-take-le many after room in
+      sym (take-append-drop many after)
+      ∙ ap (λ (l : List ℕ). l ++ drop many after) (sym stored)
+      ∙ ap (λ (l : List ℕ). numbers ++ l)
+      (rw size (kept ∙ drop-zeroed many least table few long))
 
-  pub zeroed-again : (after : List ℕ) → length after ≡ length table
-      → drop least after ≡ drop least (zeroed least table) → zeroed least after ≡ zeroed least table
+  pub zeroed-again : (after : List ℕ) → length after ≡ length table → drop least after ≡ drop least table
+      → zeroed least after ≡ zeroed least table
   zeroed-again after same e =
-      let none : least - least ≡ 0 = omega arith in
-      let beyond : drop least (zeroed least table) ≡ drop least table =
-      rw none at (drop-zeroed least least table (omega arith) long) in
       drop-zeroed 0 least after (omega arith) (omega arith)
-      ∙ ap (λ (l : List ℕ). replicate (least - 0) 0 ++ l) (e ∙ beyond)
+      ∙ ap (λ (l : List ℕ). replicate (least - 0) 0 ++ l) e
       ∙ sym (drop-zeroed 0 least table (omega arith) long)

@@ -1,26 +1,27 @@
--- The answers of reading a whole text fit its promise: a table is too short; or the text was read into zeroed
--- tables and is accepted; or it is refused, and the tables are zeroed again. Assumes nothing.
+-- The answers of reading a whole text fit its promise: a table is too short; or the text was read and is
+-- accepted; or it is refused, and the tables are zeroed. Assumes nothing.
 --     long-enough      no table is too short
 --     read-short, read-accepted, read-refused    the three answers
 use mathlib.Core.Path.{_≡_, refl, sym, _∙_}
 use mathlib.Core.Logic.{inl, inr}
 use mathlib.Core.List.{List}
-use Prim.Native.Nat.{ℕ, _<_}
+use Prim.Native.Nat.{ℕ, _≤_, _<_}
 use native.Mathlib.Omega.{arith}
-use lib.ListN.{length}
+use lib.ListN.{length, drop}
 use Rattle.hall.specs.declared.Fault.the-variants.{ShortTable}
 use Rattle.hall.specs.declared.Job.{Job}
 use Rattle.hall.specs.declared.Refusal.{Refusal}
 use Rattle.hall.specs.Limits.{nodeLimit, carrierLimit, laneNumbers, moveNumbers}
 use Rattle.hall.specs.Numbers.{numberOf}
-use Rattle.hall.specs.Said.{accepted, refused, saidRefusal}
-use Rattle.hall.specs.Left.{zeroed}
+use Rattle.hall.specs.Said.{refused}
+use Rattle.hall.specs.Left.{zeroed, left}
 use Rattle.hall.proofs.Left.{left-by-other}
 use Rattle.form.proofs.JobTexts.{refused-with}
 use Rattle.reader.specs.declared.Read.{Read}
-use Rattle.reader.specs.Reading.{AnyShort, short, faulty, ReadInto}
+use Rattle.reader.specs.Entries.{RefusedBy}
+use Rattle.reader.specs.Reading.{saidRead, AnyShort, short, faulty, ReadInto}
 use Rattle.reader.specs.Text.{Long, TextRead}
-use Rattle.reader.proofs.Left.{laid-filled, zeroed-again}
+use Rattle.reader.proofs.Left.{zeroed-again}
 
 pub long-enough : (lanes closed moves order : List ℕ) → ¬ AnyShort lanes closed moves order
     → Long lanes closed moves order
@@ -47,46 +48,36 @@ module _ (text lanes closed moves order : List ℕ) where
     order-left = refl;
   }
 
-  module _ (long : ¬ AnyShort lanes closed moves order) (lanes′ closed′ moves′ order′ : List ℕ) where
-    -- what reading into the zeroed tables answers
-    abbrev IntoZeros : Read → Type 0
-    IntoZeros =
-        TextRead text (zeroed laneNumbers lanes) (zeroed nodeLimit closed) (zeroed moveNumbers moves)
-        (zeroed carrierLimit order) lanes′ closed′ moves′ order′
+  module _ (lanes′ closed′ moves′ order′ : List ℕ) (answer : Read)
+      (x : TextRead text lanes closed moves order lanes′ closed′ moves′ order′ answer) where
+    pub read-accepted : (counts : Job) → answer ≡ Read.Job counts
+        → ReadInto text lanes closed moves order lanes′ closed′ moves′ order′ (saidRead answer)
+    read-accepted counts e = rw e (rw e at (x .answer))
 
-    pub read-accepted : (counts : Job) → IntoZeros (Read.Job counts)
-        → ReadInto text lanes closed moves order lanes′ closed′ moves′ order′ (accepted counts)
-    read-accepted counts x =
-        let enough = long-enough lanes closed moves order long in
-        let a = x .answer in
-        record {
-          long = long;
-          job = a .job;
-          writes = a .writes;
-          is-counts = a .is-counts;
-          lanes-left = laid-filled laneNumbers lanes (enough .lanes-long) _ lanes′ (a .lanes-laid);
-          closed-left = laid-filled nodeLimit closed (enough .closed-long) _ closed′ (a .closed-laid);
-          moves-left = laid-filled moveNumbers moves (enough .moves-long) _ moves′ (a .moves-laid);
-          order-left = laid-filled carrierLimit order (enough .order-long) _ order′ (a .order-laid);
-        }
+    -- what zeroing leaves of a table that was not touched beyond its least length
+    left-zeroed : (r : Refusal) → RefusedBy text r → (least : ℕ) (before after last : List ℕ)
+        → least ≤ length before → length after ≡ length before → drop least after ≡ drop least before
+        → last ≡ zeroed least after
+        → last ≡ left (numberOf (r .fault)) least before
+    left-zeroed r f least before after last long same beyond is =
+        is ∙ zeroed-again least before long after same beyond
+        ∙ sym (left-by-other (numberOf (r .fault)) least before
+        (refused-with text (numberOf (r .fault)) (r .place) f .4))
 
-    pub read-refused : (r : Refusal) → IntoZeros (Read.Refused r)
+    pub read-refused : (r : Refusal) → answer ≡ Read.Refused r → ¬ AnyShort lanes closed moves order
         → length lanes′ ≡ length lanes → length closed′ ≡ length closed
         → length moves′ ≡ length moves → length order′ ≡ length order
-        → ReadInto text lanes closed moves order (zeroed laneNumbers lanes′) (zeroed nodeLimit closed′)
-        (zeroed moveNumbers moves′) (zeroed carrierLimit order′) (saidRefusal r)
-    read-refused r x l c m o =
-        let enough = long-enough lanes closed moves order long in
-        let number = numberOf (r .fault) in
-        let other : ¬ (number ≡ 9) = refused-with text number (r .place) (x .answer) .4 in
-        record {
-          reason = faulty long (x .answer);
-          lanes-left = zeroed-again laneNumbers lanes (enough .lanes-long) lanes′ l (x .beyond-lanes)
-              ∙ sym (left-by-other number laneNumbers lanes other);
-          closed-left = zeroed-again nodeLimit closed (enough .closed-long) closed′ c (x .beyond-closed)
-              ∙ sym (left-by-other number nodeLimit closed other);
-          moves-left = zeroed-again moveNumbers moves (enough .moves-long) moves′ m (x .beyond-moves)
-              ∙ sym (left-by-other number moveNumbers moves other);
-          order-left = zeroed-again carrierLimit order (enough .order-long) order′ o (x .beyond-order)
-              ∙ sym (left-by-other number carrierLimit order other);
-        }
+        → (l c m o : List ℕ) → l ≡ zeroed laneNumbers lanes′ → c ≡ zeroed nodeLimit closed′
+        → m ≡ zeroed moveNumbers moves′ → o ≡ zeroed carrierLimit order′
+        → ReadInto text lanes closed moves order l c m o (saidRead answer)
+    read-refused r e enough el ec em eo l c m o zl zc zm zo =
+        let f : RefusedBy text r = rw e at (x .answer) in
+        let long = long-enough lanes closed moves order enough in
+        rw e (record {
+          reason = faulty enough f;
+          lanes-left = left-zeroed r f laneNumbers lanes lanes′ l (long .lanes-long) el (x .beyond-lanes) zl;
+          closed-left =
+              left-zeroed r f nodeLimit closed closed′ c (long .closed-long) ec (x .beyond-closed) zc;
+          moves-left = left-zeroed r f moveNumbers moves moves′ m (long .moves-long) em (x .beyond-moves) zm;
+          order-left = left-zeroed r f carrierLimit order order′ o (long .order-long) eo (x .beyond-order) zo;
+        })

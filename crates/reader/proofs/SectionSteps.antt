@@ -1,229 +1,246 @@
--- The line of a section's count, a section as one step, and the end of a text: each answer is one law of the
--- form (its proofs/Reached.antt), of the stand to which the sections before lead, or of sections that are
--- passed over there (Skipped.antt). Assumes nothing.
---     count-fits, count-unfit, count-lacks    the line of a count, by what stands there
---     nodes-limited ..  the counts that fit each section lie between these
---     entries-begun     its count was read: its entries begin
---     step-passes       a refusal passes through a step
---     step-missing      a section that may be missing is
---     count-stops       the line of its count ends a section
---     step-counted      a section without entries is its count; step-entries one with entries
---     end-lacks, end-here    the end of a text, by what stands there
-use mathlib.Core.Path.{_≡_, refl, sym, ap, subst}
-use mathlib.Core.Logic.{inl, inr}
+-- A section as one step: each answer is one law of the form, of the line of its count (CountLines.antt), of
+-- sections that are passed over (Skipped.antt) or of the lines of its entries (EntryLines.antt). What differs
+-- between the sections is in SectionKinds.antt. Assumes nothing.
+--     word-there        its word is among the words
+--     step-missing      no line of its count stands, and it may be missing
+--     step-lacks        no line of its count stands, and it must: refused with 1
+--     step-below, step-above    its count is too small, or too great: refused with 2
+--     step-counted      its count fits, and is all
+--     entries-ready, step-entries    its count fits, and its entries may be read, and were
+use mathlib.Core.Path.{_≡_, refl, sym, _∙_, ap, subst}
+use mathlib.Core.Logic.{_↔_, inl, inr}
 use mathlib.Core.List.{List, [], _∷_}
-use mathlib.Core.Bool.{true}
+use mathlib.Core.Bool.{true, false}
 use Prim.Native.Nat.{ℕ, _*_, _≤_, _<_}
 use native.Mathlib.Omega.{arith}
-use lib.ListN.{length, drop, length-drop, drop-of-length-le}
+use types.Run.{OneOf}
+use denote.Enum.Declared.{tagOf}
+use lib.ListN.{length, take, drop}
 use Rattle.hall.specs.declared.Fault.the-variants.{Malformed, BadCount}
 use Rattle.hall.specs.declared.Job.{Job}
-use Rattle.hall.specs.declared.Refusal.{Refusal}
-use Rattle.hall.specs.Limits.{nodeLimit, laneLimit, carrierLimit, dwellLimit}
+use Rattle.hall.specs.Left.{zeroed}
+use Rattle.hall.proofs.Left.{zeroed-length}
 use Rattle.form.specs.Lines.{Counted}
-use Rattle.form.specs.Sections.{place, Section, Form, Content, CountFits, due}
-use Rattle.form.specs.Contents.{Picks, first}
-use Rattle.form.specs.Stands.{within, behind}
-use Rattle.form.specs.JobText.{nodesSection, lanesSection, closedSection, carriersSection}
-use Rattle.form.specs.JobText.{orderSection, dwellSection, jobText}
-use Rattle.form.specs.Reached.{Reached}
-use Rattle.form.proofs.Reached.{past-count, count-refused, at-end}
+use Rattle.form.specs.Sections.{Section, Form, Content, CountFits, due, numbersIn}
+use Rattle.form.specs.Stands.{within}
+use Rattle.form.specs.JobText.{jobText}
+use Rattle.form.specs.Reached.{Reached, Collected}
 use Rattle.form.proofs.Tables.{collected-start}
 use Rattle.cursor.specs.declared.Cursor.{Cursor}
-use Rattle.reader.specs.declared.lines.CountLine.{CountLine}
-use Rattle.reader.specs.declared.lines.Entries.{Entries}
-use Rattle.reader.specs.declared.lines.State.{State}
+use Rattle.cursor.specs.declared.Numbered.{Numbered}
+use Rattle.cursor.specs.Steps.{CountTaken, Counting}
+use Rattle.network.specs.declared.entries.Entries.{Entries}
 use Rattle.reader.specs.declared.lines.Progress.{Progress}
-use Rattle.reader.specs.declared.Read.{Read}
-use Rattle.cursor.specs.Steps.{CountTaken}
-use Rattle.reader.specs.Entries.{RefusedBy, Asks, sectionOf, Begun, EntriesRead, EntriesAnswer}
-use Rattle.reader.specs.Sections.{Stood, Limited, MustStand, CountRead, ReadyAt, SectionAnswer}
-use Rattle.reader.specs.Sections.{SectionStep, EndStep}
-use Rattle.reader.proofs.Skipped.{skips-back, skips-lack, skipped-lacking, skipped-over}
+use Rattle.reader.specs.declared.sections.Sections.{Sections}
+use Rattle.reader.specs.declared.sections.Sections.the-variants.{Listed}
+use Rattle.reader.specs.declared.sections.Terms.{Terms}
+use Rattle.reader.specs.Entries.{Asks, sectionOf, Begun, EntriesRead, EntriesAnswer}
+use Rattle.reader.specs.Sections.{inForm, words, wordFrom, roomOf, termsIn, withCount, Stood, ReadyAt}
+use Rattle.reader.specs.Sections.{Ready, SectionRead, SectionAnswer, SectionStep}
+use Rattle.reader.proofs.sections.Sections as sections
+use Rattle.reader.proofs.Left.{beyond-zeroed, laid-filled}
+use Rattle.reader.proofs.Skipped.{skipped-lacking}
+use Rattle.reader.proofs.SectionKinds.{capitals, word-in, limited, form-terms, room-for, asks-still}
+use Rattle.reader.proofs.SectionKinds.{no-entries}
 use Rattle.reader.proofs.EntryKinds.{due-is}
-use Rattle.reader.proofs.EntryLines.{line-after, drop-further}
+use Rattle.reader.proofs.EntryLines.{drop-further}
+use Rattle.reader.proofs.CountLines.{count-leads, count-unfit, fits-most}
 
--- ---- the line of a count
+-- ---- a section, by its terms, once its table is zero
 
-module _ (text : List ℕ) (here : Cursor) (read : List Content) (s : Section) (left : Form)
-    (x : Stood text read (s ∷ left) here) where
-  turn : Picks (behind jobText (x .stand)) s left
-  turn = skips-back (x .is-left) (first s left)
+pub word-there : (which : Sections) (k : ℕ) (terms : Terms) → terms ≡ termsIn which k
+    → (terms .from ≤ terms .to) × (terms .to ≤ length words)
+word-there which k terms is = rw is (word-in which k .1, word-in which k .2)
 
-  past-it : (n : ℕ) (next : Cursor) → CountTaken text (s .word) here n next → CountFits (s .limits) read n
-      → Reached jobText text (within read s n [] left) (drop (next .at) text) (next .line)
-  past-it n next c fits =
-      let r = past-count jobText text (x .reached) (x .whole) s left turn (c .taken)
-      (rw (c .is-count, x .is-read) fits) in
-      rw (c .is-count, x .is-read, c .behind .is-rest, ← line-after (x .reached) (c .behind .next-line)) at r
+module _ (text closed : List ℕ) (which : Sections) (p : Progress) (job : Job) (here : Cursor)
+    (on : p ≡ Progress.On job here) (before table : List ℕ)
+    (terms : Terms) (is-terms : terms ≡ termsIn which (job .carriers))
+    (zeros : table ≡ zeroed (terms .room) before) (long : roomOf which ≤ length before) where
+  abbrev shut : List ℕ
+  shut = take (job .closed) closed
 
-  unfit-here : (n : ℕ) (next : Cursor) → CountTaken text (s .word) here n next
-      → ¬ CountFits (s .limits) read n
-      → RefusedBy text (record { fault = BadCount; place = here .line })
-  unfit-here n next c unfit =
-      count-refused jobText text (x .reached) (x .whole) s left turn (c .taken)
-      (rw (c .is-count, x .is-read) unfit)
+  optional-here : inForm which .optional ≡ terms .optional
+  optional-here = sym (ap (λ (t : Terms). t .optional) is-terms ∙ form-terms which (job .carriers) .1)
 
-  lacking-here : MustStand text s here → ¬ Counted (s .word) (drop (here .at) text)
-      → RefusedBy text (record { fault = Malformed; place = here .line })
-  lacking-here (inl must) none =
-      skipped-lacking jobText text (x .reached) (x .whole) s left (x .is-left) must none
-  lacking-here (inr stands) none = absurd (none stands)
+  fits-here : (read : List Content) → Asks (inForm which .entry) job shut read → (n : ℕ)
+      → ((terms .least ≤ n) × (n ≤ terms .greatest)) ↔ CountFits (inForm which .limits) read n
+  fits-here read asks n = rw is-terms (limited which job shut read asks n)
 
-module _ (text word : List ℕ) (least greatest : ℕ) (here : Cursor) where
-  pub count-fits : (n : ℕ) (next : Cursor) → CountTaken text word here n next → least ≤ n → n ≤ greatest
-      → CountRead text word least greatest here (CountLine.Count n next)
-  count-fits n next c low high = record {
-    reads = λ read s left w must limited x.
-        past-it text here read s left x n next (rw w c) (limited n .0 (low, high));
-    within = (low, high);
-  }
+  zeros-here : table ≡ zeroed (roomOf which) before
+  zeros-here = rw (ap (λ (t : Terms). t .room) is-terms ∙ form-terms which (job .carriers) .0) at zeros
 
-  pub count-unfit : (n : ℕ) (next : Cursor) → CountTaken text word here n next
-      → ¬ ((least ≤ n) × (n ≤ greatest))
-      → (q : Refusal) → q ≡ record { fault = BadCount; place = here .line }
-      → CountRead text word least greatest here (CountLine.Refused q)
-  count-unfit n next c unfit q e = record {
-    reads = λ read s left w must limited x.
-        subst (RefusedBy text) (sym e)
-        (unfit-here text here read s left x n next (rw w c) (λ f. unfit (limited n .1 f)));
-    within = tt;
-  }
+  beyond-here : drop (roomOf which) table ≡ drop (roomOf which) before
+  beyond-here = rw zeros-here (beyond-zeroed (roomOf which) before long)
 
-  pub count-lacks : ¬ Counted word (drop (here .at) text)
-      → (q : Refusal) → q ≡ record { fault = Malformed; place = here .line }
-      → CountRead text word least greatest here (CountLine.Refused q)
-  count-lacks none q e = record {
-    reads = λ read s left w must limited x.
-        subst (RefusedBy text) (sym e) (lacking-here text here read s left x must (rw w none));
-    within = tt;
-  }
+  word-here : wordFrom (terms .from) (terms .to) ≡ inForm which .word
+  word-here =
+      ap (λ (t : Terms). wordFrom (t .from) (t .to)) is-terms ∙ word-in which (job .carriers) .0
 
--- ---- the limits of the counts
+  module _ (a : Numbered) (c : Counting text (wordFrom (terms .from) (terms .to)) here a) where
+    at-word : Counting text (inForm which .word) here a
+    at-word = subst (λ (w : List ℕ). Counting text w here a) word-here c
 
-pub nodes-limited : (read : List Content) → Limited nodesSection read 1 nodeLimit
-nodes-limited read n = (λ h. h, λ h. h)
+    -- no line of its count stands
+    module _ (bad : a ≡ Numbered.Bad) where
+      none-here : ¬ Counted (inForm which .word) (drop (here .at) text)
+      none-here = (rw bad at at-word) (capitals which)
 
-pub lanes-limited : (read : List Content) → Limited lanesSection read 0 laneLimit
-lanes-limited read n = (λ h. h, λ h. h)
-
-pub closed-limited : (read : List Content) → Limited closedSection read 1 nodeLimit
-closed-limited read n = (λ h. h, λ h. h)
-
-pub carriers-limited : (read : List Content) → Limited carriersSection read 0 carrierLimit
-carriers-limited read n = (λ h. h, λ h. h)
-
-pub dwell-limited : (read : List Content) → Limited dwellSection read 1 dwellLimit
-dwell-limited read n = (λ h. h, λ h. h)
-
--- the order's count is the carriers'
-pub order-limited : (job : Job) (read : List Content) → Asks place job [] read
-    → Limited orderSection read (job .carriers) (job .carriers)
-order-limited job read asks n =
-    let e = asks .0 in
-    let most = asks .1 in
-    (λ h. (omega arith, omega arith), λ h. (omega arith, omega arith))
-
--- ---- a section
-
-module _ (text closed : List ℕ) (s : Section) (put : ℕ → Job → Job) (table : List ℕ) where
-  pub step-passes : (most : ℕ) (q : Refusal)
-      → SectionStep text closed s put most table table (Progress.Refused q) (Progress.Refused q)
-  step-passes most q = record { takes = refl; beyond = refl }
-
-  pub step-missing : (most : ℕ) (st : State) → s .optional ≡ true
-      → ¬ Counted (s .word) (drop (st .next .at) text)
-      → SectionStep text closed s put most table table (Progress.On st) (Progress.On st)
-  step-missing most st may none = record {
-    takes = λ read left asks x.
-        inr (record { may = may; none = none; same-state = refl; same-table = refl });
-    beyond = refl;
-  }
-
-  -- its count has these limits, whatever is read that has what it asks for
-  module _ (word : List ℕ) (w : s .word ≡ word) (least greatest : ℕ) (st : State)
-      (must : MustStand text s (st .next))
-      (limited : (read : List Content) → Asks (s .entry) (st .job) closed read
-      → Limited s read least greatest) where
-    pub count-stops : (most : ℕ) (q : Refusal)
-        → CountRead text word least greatest (st .next) (CountLine.Refused q)
-        → SectionStep text closed s put most table table (Progress.On st) (Progress.Refused q)
-    count-stops most q c = record {
-      takes = λ read left asks x. c .reads read s left w must (limited read asks) x;
-      beyond = refl;
-    }
-
-    module _ (n : ℕ) (next : Cursor)
-        (c : CountRead text word least greatest (st .next) (CountLine.Count n next)) where
-      pub step-counted : (none : (m : ℕ) → due s m ≡ 0) (most : ℕ)
-          → SectionStep text closed s put most table table (Progress.On st)
-          (Progress.On (record { job = put n (st .job); next = next }))
-      step-counted none most = record {
-        takes = λ read left asks x. inl (record {
-          count = n;
-          fits = limited read asks n .0 (c .within);
-          collected = rw (none n) (collected-start jobText text read s n left table
-              (c .reads read s left w must (limited read asks) x));
-          counts = refl;
-          kept = refl;
+      pub step-missing : terms .optional ≡ true
+          → SectionStep text closed which before table p (Progress.On job here)
+      step-missing may = rw on (record {
+        takes = λ read left asks x. inr (record {
+          may = optional-here ∙ may;
+          none = none-here;
+          same-counts = refl;
+          same-place = refl;
+          zeroes = zeros-here;
         });
-        beyond = refl;
-      }
-
--- with entries, whose checks ask for nothing that the section's own count changes
-module _ (text closed : List ℕ) (which : Entries) (put : ℕ → Job → Job)
-    (word : List ℕ) (w : sectionOf which .word ≡ word) (least greatest : ℕ) (st : State)
-    (must : MustStand text (sectionOf which) (st .next))
-    (limited : (read : List Content) → Asks (sectionOf which .entry) (st .job) closed read
-    → Limited (sectionOf which) read least greatest)
-    (n : ℕ) (next : Cursor) (c : CountRead text word least greatest (st .next) (CountLine.Count n next))
-    (asks-still : (read : List Content) → Asks (sectionOf which .entry) (st .job) closed read
-    → Asks (sectionOf which .entry) (put n (st .job)) closed read) where
-  pub entries-begun : ReadyAt text closed (sectionOf which) (st .job) (st .next)
-      → Begun text which (put n (st .job)) closed n next
-  entries-begun r = record {
-    read = r .read;
-    left = r .left;
-    asks = asks-still (r .read) (r .asks);
-    reached =
-        c .reads (r .read) (sectionOf which) (r .left) w must (limited (r .read) (r .asks)) (r .stood);
-  }
-
-  pub step-entries : (most : ℕ) → sectionOf which .size * n ≤ most → (before after : List ℕ) (r : Progress)
-      → EntriesRead text which (put n (st .job)) closed n next before after r
-      → SectionStep text closed (sectionOf which) put most before after (Progress.On st) r
-  step-entries most few before after r x = record {
-    takes = λ read left asks stood. answer r read left asks (x .reads read left (asks-still read asks)
-        (c .reads read (sectionOf which) left w must (limited read asks) stood));
-    beyond = drop-further (sectionOf which .size * n) most after before few (x .kept);
-  }
-    where
-      answer : (r : Progress) (read : List Content) (left : Form)
-          → Asks (sectionOf which .entry) (st .job) closed read
-          → EntriesAnswer text read (sectionOf which) n left (put n (st .job)) after r
-          → SectionAnswer text read (sectionOf which) left put st before after r
-      answer (Progress.Refused q) read left asks a = a
-      answer (Progress.On to) read left asks a = inl (record {
-        count = n;
-        fits = limited read asks n .0 (c .within);
-        collected = a .1;
-        counts = a .0;
-        kept = rw (due-is which n) (x .kept);
+        beyond = beyond-here;
       })
 
--- ---- the end of a text
+      pub step-lacks : terms .optional ≡ false
+          → (r : Progress) → r ≡ Progress.Refused (record { fault = Malformed; place = here .line })
+          → SectionStep text closed which before table p r
+      step-lacks must r e = rw (on, e) (record {
+        takes = λ read left asks x.
+            skipped-lacking jobText text (x .reached) (x .whole) (inForm which) left (x .is-left)
+            (optional-here ∙ must) none-here;
+        beyond = beyond-here;
+      })
 
-module _ (text : List ℕ) (st : State) where
-  pub end-lacks : st .next .at < length text
-      → (q : Refusal) → q ≡ record { fault = Malformed; place = st .next .line }
-      → EndStep text (Progress.On st) (Read.Refused q)
-  end-lacks h q e read x =
-      subst (RefusedBy text) (sym e)
-      (skipped-over jobText text (x .reached) (x .whole) (x .is-left)
-      (λ z. let l = ap length z in let y : ⊥ = omega (arith, length-drop (st .next .at) text) in y))
+    -- its count was read
+    module _ (n : ℕ) (next : Cursor) (got : a ≡ Numbered.Got n next) where
+      taken : CountTaken text (inForm which .word) here n next
+      taken = rw got at at-word
 
-  pub end-here : length text ≤ st .next .at → EndStep text (Progress.On st) (Read.Job (st .job))
-  end-here h read x =
-      let may = skips-lack (x .is-left) .1 tt in
-      let form = at-end jobText text (x .reached) (x .whole, may) (drop-of-length-le text h) in
-      (refl, rw (x .is-read) at form)
+      module _ (r : Progress)
+          (e : r ≡ Progress.Refused (record { fault = BadCount; place = here .line })) where
+        step-unfit : ¬ ((terms .least ≤ n) × (n ≤ terms .greatest))
+            → SectionStep text closed which before table p r
+        step-unfit unfit = rw (on, e) (record {
+          takes = λ read left asks x.
+              count-unfit text here read (inForm which) left x n next taken
+              (λ f. unfit (fits-here read asks n .1 f));
+          beyond = beyond-here;
+        })
+
+        pub step-below : n < terms .least → SectionStep text closed which before table p r
+        step-below h = step-unfit (λ f. let x : ⊥ = omega (arith, f .0) in x)
+
+        pub step-above : terms .greatest < n → SectionStep text closed which before table p r
+        step-above h = step-unfit (λ f. let x : ⊥ = omega (arith, f .1) in x)
+
+      -- it fits, and is put in
+      module _ (low : terms .least ≤ n) (high : n ≤ terms .greatest)
+          (job′ : Job) (is-job : job′ ≡ withCount which n job) where
+        begins : (read : List Content) (left : Form) → Asks (inForm which .entry) job shut read
+            → Stood text read (inForm which ∷ left) here
+            → Reached jobText text (within read (inForm which) n [] left) (drop (next .at) text) (next .line)
+        begins read left asks x =
+            count-leads text here read (inForm which) left x n next taken
+            (fits-here read asks n .0 (low, high))
+
+        has-room : (read : List Content) → Asks (inForm which .entry) job shut read
+            → inForm which .size * due (inForm which) n ≤ roomOf which
+        has-room read asks =
+            room-for which n
+            (fits-most (inForm which .limits) read n (fits-here read asks n .0 (low, high)))
+
+        -- so many entries stand in the table
+        section-read : (read : List Content) (left : Form) → Asks (inForm which .entry) job shut read
+            → (after : List ℕ) → length after ≡ length table
+            → drop (inForm which .size * due (inForm which) n) after
+            ≡ drop (inForm which .size * due (inForm which) n) table
+            → (to : Cursor)
+            → Collected jobText text read (inForm which) n left (due (inForm which) n) after
+            (drop (to .at) text) (to .line)
+            → SectionRead text read which left job job′ to before after
+        section-read read left asks after same kept to x =
+            let many = inForm which .size * due (inForm which) n in
+            let size : length table ≡ length before =
+            ap length zeros-here ∙ zeroed-length (roomOf which) before in
+            let few = has-room read asks in
+            record {
+              count = n;
+              fits = fits-here read asks n .0 (low, high);
+              collected = x;
+              counts = is-job;
+              fills = laid-filled (roomOf which) before long many (numbersIn (x .es)) after few (omega arith)
+                  (x .stored) (kept ∙ ap (drop many) zeros-here);
+            }
+
+        pub step-counted : OneOf (0 ∷ 1 ∷ []) (tagOf sections.the-type which)
+            → SectionStep text closed which before table p (Progress.On job′ next)
+        step-counted alone = rw on (record {
+          takes = λ read left asks x. inl (section-read read left asks table refl refl next
+              (rw (no-entries which alone n) (collected-start jobText text read (inForm which) n left table
+              (begins read left asks x))));
+          beyond = beyond-here;
+        })
+
+        -- its entries are read
+        module _ (e : Entries) (listed : which ≡ Listed e) (ready : Ready text closed which p) where
+          section-is : inForm which ≡ sectionOf e
+          section-is = ap inForm listed
+
+          ready-here : ReadyAt text closed which job here
+          ready-here = rw on at ready
+
+          still : (read : List Content) → Asks (inForm which .entry) job shut read
+              → Asks (sectionOf e .entry) job′ shut read
+          still read asks =
+              subst (λ (s : Section). Asks (s .entry) job′ shut read) section-is
+              (rw is-job (asks-still which n job shut read asks))
+
+          leads : (read : List Content) (left : Form) → Asks (inForm which .entry) job shut read
+              → Stood text read (inForm which ∷ left) here
+              → Reached jobText text (within read (sectionOf e) n [] left) (drop (next .at) text) (next .line)
+          leads read left asks x =
+              subst
+              (λ (s : Section).
+              Reached jobText text (within read s n [] left) (drop (next .at) text) (next .line))
+              section-is (begins read left asks x)
+
+          due-here : (s : Section) → s ≡ sectionOf e → s .size * due s n ≡ sectionOf e .size * n
+          due-here s same =
+              ap (λ (o : Section). o .size * due o n) same
+              ∙ ap (λ (k : ℕ). sectionOf e .size * k) (due-is e n)
+
+          few : sectionOf e .size * n ≤ roomOf which
+          few = rw (due-here (inForm which) section-is) at (has-room (ready-here .read) (ready-here .asks))
+
+          pub entries-ready : length table ≡ length before → Begun text e job′ shut n next table
+          entries-ready same =
+              let r = ready-here in
+              record {
+                read = r .read;
+                left = r .left;
+                asks = still (r .read) (r .asks);
+                reached = leads (r .read) (r .left) (r .asks) (r .stood);
+                room = omega (arith, few);
+              }
+
+          pub step-entries : (after : List ℕ) → length after ≡ length table
+              → (r : Progress) → EntriesRead text e job′ shut n next table after r
+              → SectionStep text closed which before after p r
+          step-entries after same r x = rw on (record {
+            takes = λ read left asks stood.
+                answer r read left asks (x .reads read left (still read asks) (leads read left asks stood));
+            beyond = drop-further (sectionOf e .size * n) (roomOf which) after table few (x .kept)
+                ∙ beyond-here;
+          })
+            where
+              answer : (r : Progress) (read : List Content) (left : Form)
+                  → Asks (inForm which .entry) job shut read
+                  → EntriesAnswer text read (sectionOf e) n left job′ after r
+                  → SectionAnswer text which before after read left job here r
+              answer (Progress.Refused q) read left asks a = a
+              answer (Progress.On job″ to) read left asks a =
+                  inl (rw (a .0)
+                  (section-read read left asks after same
+                  (rw (due-here (inForm which) section-is) (x .kept))
+                  to
+                  (subst
+                  (λ (s : Section).
+                  Collected jobText text read s n left (due s n) after (drop (to .at) text) (to .line))
+                  (sym section-is) (a .1))))

@@ -18,8 +18,9 @@ use Rattle.cursor.specs.declared.bytes.Kind.{Kind}
 use Rattle.cursor.specs.declared.bytes.Kind.the-variants.{Digit, Space, LineFeed, Capital, Other}
 use Rattle.cursor.specs.Bytes.{kindOf, Capitals}
 use Rattle.cursor.proofs.ByteKinds.{kind-digit, kind-space, kind-line-feed, kind-capital}
-use Rattle.reader.proofs.Words.{nodes-capitals, lanes-capitals, closed-capitals, carriers-capitals}
-use Rattle.reader.proofs.Words.{order-capitals, dwell-capitals}
+use Rattle.network.specs.declared.entries.Entries.the-variants.{Lanes, Closed, Moves, Places}
+use Rattle.reader.specs.declared.sections.Sections.the-variants.{Nodes, Dwell, Listed}
+use Rattle.reader.proofs.SectionKinds.{capitals}
 
 abbrev pub Known : List ℕ → Type 0
 Known [] = Unit
@@ -92,21 +93,21 @@ closed-known : (closed : List ℕ) (rest : List Content) → Known (written rest
     → Known (written (closedContents closed ++ rest))
 unfolding written
 closed-known [] rest k = k
-closed-known (v ∷ l) rest k = section-known _ _ (singles (v ∷ l)) _ closed-capitals k
+closed-known (v ∷ l) rest k = section-known _ _ (singles (v ∷ l)) _ (capitals (Listed Closed)) k
 
 dwell-known : (w : ℕ) → Known (written (dwellContents w))
 unfolding written
 dwell-known zero = tt
-dwell-known (suc w) = section-known _ _ [] [] dwell-capitals tt
+dwell-known (suc w) = section-known _ _ [] [] (capitals Dwell) tt
 
 job-known : (j : Numbers) → Known (written (contentsOf j))
 unfolding written
 job-known j =
-    section-known _ _ [] _ nodes-capitals
-    (section-known _ _ (pairs (j .network .lanes)) _ lanes-capitals
+    section-known _ _ [] _ (capitals Nodes)
+    (section-known _ _ (pairs (j .network .lanes)) _ (capitals (Listed Lanes))
     (closed-known (j .network .closed) _
-    (section-known _ _ (pairs (j .moves)) _ carriers-capitals
-    (section-known _ _ (singles (j .order)) _ order-capitals (dwell-known (j .dwell))))))
+    (section-known _ _ (pairs (j .moves)) _ (capitals (Listed Moves))
+    (section-known _ _ (singles (j .order)) _ (capitals (Listed Places)) (dwell-known (j .dwell))))))
 
 pub accepted-kinds : (t : List ℕ) (j : Numbers) → WrittenJob t j → Known t
 accepted-kinds t j w = subst Known (sym (w .writes)) (job-known j)

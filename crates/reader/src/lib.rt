@@ -1,26 +1,18 @@
 // Reads a job text (section 7 of the rules) into lent tables, section by section, against the form that crate
 // `form` says, with the cursor of crate `cursor` (rules 8.21 and 9.4 to 9.6). A table that is too short is
-// refused before anything is read, and leaves every table as it came. Otherwise each table is zero up to its
-// least length before the text is read, so that an accepted text leaves its numbers and zeros behind them; a
-// refusal zeroes again.
+// refused before anything is read, and leaves every table as it came. Otherwise each table becomes zero up to
+// its least length before its section is read, so that an accepted text leaves its numbers and zeros behind
+// them; a refusal zeroes every table.
 use crate::lines::Progress;
-use crate::lines::State;
+use crate::sections::Sections;
 use crate::sections::at_end;
-use crate::sections::carriers_section;
-use crate::sections::closed_count;
-use crate::sections::closed_section;
-use crate::sections::dwell_section;
-use crate::sections::lanes_section;
-use crate::sections::nodes_section;
-use crate::sections::order_section;
+use crate::sections::section;
 use cursor::Cursor;
 use hall::Fault;
 use hall::Job;
 use hall::Refusal;
 use hall::zero::zero_first;
-ghost use mathlib.Core.Path.{_≡_};
-ghost use Rattle.hall.specs.Limits.{nodeLimit, carrierLimit, laneNumbers, moveNumbers};
-ghost use Rattle.hall.specs.Left.{zeroed};
+use network::entries::Entries;
 ghost use Rattle.hall.specs.Rule.{Answers};
 ghost use Rattle.reader.specs.Reading.{saidRead, TooShort, ReadInto};
 ghost use Rattle.reader.specs.Text.{Long, TextRead};
@@ -57,22 +49,8 @@ fn too_short(lanes: usize, closed: usize, moves: usize, order: usize) -> bool
     false
 }
 
-// The least length of each table becomes zero.
-fn zero_tables(lanes: &mut [u16], closed: &mut [u16], moves: &mut [u16], order: &mut [u16])
-    ensures { λ _. ⌜
-        (now (lanes .exit) ≡ zeroed laneNumbers (now (lanes .entry)))
-        × (now (closed .exit) ≡ zeroed nodeLimit (now (closed .entry)))
-        × (now (moves .exit) ≡ zeroed moveNumbers (now (moves .entry)))
-        × (now (order .exit) ≡ zeroed carrierLimit (now (order .entry)))
-        ⌝ }
-{
-    zero_first(lanes, Job::LANE_NUMBERS);
-    zero_first(closed, Job::NODES);
-    zero_first(moves, Job::MOVE_NUMBERS);
-    zero_first(order, Job::CARRIERS);
-}
-
-// The sections in their order, into tables that are long enough, and the end.
+// The sections in their order, into tables that are long enough, and the end. The nodes and the dwell go into
+// no table; before the closed nodes are read there are none.
 fn read_text(
     text: &[u8],
     lanes: &mut [u16],
@@ -94,16 +72,16 @@ fn read_text(
         r
         ⌝ }
 {
-    let job = Job::empty();
-    let next = Cursor::start();
-    let nodes_read = nodes_section(text, Progress::On(State { job, next }));
-    let lanes_read = lanes_section(text, nodes_read, lanes);
-    let closed_read = closed_section(text, lanes_read, closed);
-    let shut = closed_count(closed_read);
-    let carriers_read = carriers_section(text, closed_read, &closed[..shut], moves);
-    let order_read = order_section(text, carriers_read, order);
-    let dwell_read = dwell_section(text, order_read);
-    at_end(text, dwell_read)
+    let none: &[u16] = &[];
+    let mut read = Progress::On(Job::empty(), Cursor::start());
+    read = section(text, read, Sections::Nodes, none, lanes);
+    read = section(text, read, Sections::Listed(Entries::Lanes), none, lanes);
+    read = section(text, read, Sections::Listed(Entries::Closed), none, closed);
+    let shut: &[u16] = closed;
+    read = section(text, read, Sections::Listed(Entries::Moves), shut, moves);
+    read = section(text, read, Sections::Listed(Entries::Places), shut, order);
+    read = section(text, read, Sections::Dwell, shut, order);
+    at_end(text, read)
 }
 
 // Reads a job text. The lanes' numbers go to `lanes`, the closed nodes to `closed`, the starts and goals of
@@ -134,10 +112,12 @@ pub fn read_numbers(
             place: 0,
         });
     }
-    zero_tables(lanes, closed, moves, order);
     let answer = read_text(text, lanes, closed, moves, order);
     if let Read::Refused(_) = answer {
-        zero_tables(lanes, closed, moves, order);
+        zero_first(lanes, Job::LANE_NUMBERS);
+        zero_first(closed, Job::NODES);
+        zero_first(moves, Job::MOVE_NUMBERS);
+        zero_first(order, Job::CARRIERS);
     }
     answer
 }

@@ -1,204 +1,183 @@
-// The sections of a job text, one step each (rules 7.1, 7.8 to 7.13, 7.17 and 7.18): a step takes what was
-// read so far, puts its section's count and its entries to it, and passes a refusal through. The sections of
-// the closed nodes and of the dwell may be missing: then their steps change nothing. A section that is added
-// to the form needs one more step here. The last step asks for the end of the text.
+// The sections of a job text (rules 7.1, 7.8 to 7.13, 7.17 and 7.18). One step reads any of them: it takes
+// what was read so far, and puts the section's count and its entries to it. The sections differ in their
+// terms, in where their count goes and in what they list; a section that is added to the form is one case
+// more in each of these. A refusal passes through a step, so that the first one is what is answered. The last
+// step asks for the end of the text.
 use crate::Read;
-use crate::lines::CountLine;
-use crate::lines::Entries;
 use crate::lines::Progress;
-use crate::lines::State;
-use crate::lines::count_line;
-use crate::lines::count_stands;
 use crate::lines::entry_lines;
-use crate::lines::refusal;
+use crate::lines::refused;
+use cursor::Cursor;
+use cursor::Numbered;
 use hall::Fault;
 use hall::Job;
+use hall::Refusal;
+use hall::zero::zero_first;
+use network::entries::Entries;
 ghost use mathlib.Core.Path.{_≡_};
-ghost use mathlib.Core.List.{[]};
 ghost use Prim.Native.Nat.{_≤_};
 ghost use lib.ListN.{length};
-ghost use Rattle.hall.specs.Limits.{nodeLimit, carrierLimit, laneNumbers, moveNumbers};
-ghost use Rattle.form.specs.JobText.{nodesSection, lanesSection, closedSection, carriersSection};
-ghost use Rattle.form.specs.JobText.{orderSection, dwellSection};
-ghost use Rattle.reader.specs.Sections.{putNodes, putLanes, putClosed, putCarriers, putNone, putDwell};
-ghost use Rattle.reader.specs.Sections.{Ready, SectionStep, closedIn, EndStep};
+ghost use Rattle.cursor.specs.Steps.{Counting};
+ghost use Rattle.reader.specs.Sections.{words, wordFrom, roomOf, termsIn, withCount};
+ghost use Rattle.reader.specs.Sections.{Ready, SectionStep, EndStep};
 
-// `NODES n`: its count.
-pub(crate) fn nodes_section(text: &[u8], progress: Progress) -> Progress
-    requires { ⌜ Ready (now text) [] nodesSection progress ⌝ }
-    ensures { λ r. ⌜ SectionStep (now (text .entry)) [] nodesSection putNodes 0 [] [] progress r ⌝ }
+// The sections by name: two are their count alone, the others list entries below it.
+pub enum Sections {
+    Nodes,
+    Dwell,
+    Listed(Entries),
+}
+
+// On which terms a section stands: which letters of the words are its own, the least length of its table, the
+// least and the greatest count that fit, and whether it may be missing.
+pub struct Terms {
+    pub from: usize,
+    pub to: usize,
+    pub room: usize,
+    pub least: usize,
+    pub greatest: usize,
+    pub optional: bool,
+}
+
+impl Terms {
+    const NODES: Terms = Terms {
+        from: 0,
+        to: 5,
+        room: 0,
+        least: 1,
+        greatest: Job::NODES,
+        optional: false,
+    };
+
+    const LANES: Terms = Terms {
+        from: 5,
+        to: 10,
+        room: Job::LANE_NUMBERS,
+        least: 0,
+        greatest: Job::LANES,
+        optional: false,
+    };
+
+    const CLOSED: Terms = Terms {
+        from: 10,
+        to: 16,
+        room: Job::NODES,
+        least: 1,
+        greatest: Job::NODES,
+        optional: true,
+    };
+
+    const CARRIERS: Terms = Terms {
+        from: 16,
+        to: 24,
+        room: Job::MOVE_NUMBERS,
+        least: 0,
+        greatest: Job::CARRIERS,
+        optional: false,
+    };
+
+    const DWELL: Terms = Terms {
+        from: 29,
+        to: 34,
+        room: 0,
+        least: 1,
+        greatest: Job::DWELL,
+        optional: true,
+    };
+}
+
+// The line of a section's word and its count. A function cannot hand out a byte string, so the words stand
+// here one behind the other, and a section has the letters from `from` to `to`.
+fn counted(text: &[u8], here: Cursor, from: usize, to: usize) -> Numbered
+    requires { ⌜ (from ≤ to) × (to ≤ length words) ⌝ }
+    ensures { λ r. ⌜ Counting (now (text .entry)) (wordFrom from to) here r ⌝ }
 {
-    match progress {
-        Progress::On(state) => {
-            let here = state.next;
-            match count_line(text, here, b"NODES", 1, Job::NODES) {
-                CountLine::Count(count, next) => {
-                    let mut job = state.job;
-                    job.nodes = count;
-                    Progress::On(State { job, next })
-                }
-                CountLine::Refused(r) => Progress::Refused(r),
-            }
-        }
-        Progress::Refused(r) => Progress::Refused(r),
+    let words: &[u8] = b"NODESLANESCLOSEDCARRIERSORDERDWELL";
+    here.count(text, &words[from..to])
+}
+
+// The terms of a section, by the carriers so far: the order has as many places.
+fn terms_of(which: Sections, carriers: usize) -> Terms
+    ensures { λ r. ⌜ r ≡ termsIn which carriers ⌝ }
+{
+    match which {
+        Sections::Nodes => Terms::NODES,
+        Sections::Dwell => Terms::DWELL,
+        Sections::Listed(entries) => match entries {
+            Entries::Lanes => Terms::LANES,
+            Entries::Closed => Terms::CLOSED,
+            Entries::Moves => Terms::CARRIERS,
+            Entries::Places => Terms {
+                from: 24,
+                to: 29,
+                room: Job::CARRIERS,
+                least: carriers,
+                greatest: carriers,
+                optional: false,
+            },
+        },
     }
 }
 
-// `LANES m`: its count, and m lanes.
-pub(crate) fn lanes_section(text: &[u8], progress: Progress, table: &mut [u16]) -> Progress
-    requires { ⌜ Ready (now text) [] lanesSection progress × (laneNumbers ≤ length (now table)) ⌝ }
-    ensures { λ r. ⌜
-        SectionStep (now (text .entry)) [] lanesSection putLanes laneNumbers
-        (now (table .entry))
-        (now (table .exit))
-        progress
-        r
-        ⌝ }
+// The counts so far with that of a section put in. The order's is the carriers', which is there.
+fn with_count(which: Sections, count: usize, before: Job) -> Job
+    ensures { λ r. ⌜ r ≡ withCount which count before ⌝ }
 {
-    match progress {
-        Progress::On(state) => {
-            let here = state.next;
-            match count_line(text, here, b"LANES", 0, Job::LANES) {
-                CountLine::Count(count, next) => {
-                    let mut job = state.job;
-                    job.lanes = count;
-                    entry_lines(text, next, Entries::Lanes, job, &[], count, table)
-                }
-                CountLine::Refused(r) => Progress::Refused(r),
-            }
-        }
-        Progress::Refused(r) => Progress::Refused(r),
+    let mut job = before;
+    match which {
+        Sections::Nodes => job.nodes = count,
+        Sections::Dwell => job.dwell = count,
+        Sections::Listed(entries) => match entries {
+            Entries::Lanes => job.lanes = count,
+            Entries::Closed => job.closed = count,
+            Entries::Moves => job.carriers = count,
+            Entries::Places => {}
+        },
     }
+    job
 }
 
-// `CLOSED c`: its count, and c closed nodes. Where no such line stands the section is missing: the cursor
-// stays, and the next step asks for its own line there.
-pub(crate) fn closed_section(text: &[u8], progress: Progress, table: &mut [u16]) -> Progress
-    requires { ⌜ Ready (now text) [] closedSection progress × (nodeLimit ≤ length (now table)) ⌝ }
-    ensures { λ r. ⌜
-        SectionStep (now (text .entry)) [] closedSection putClosed nodeLimit
-        (now (table .entry))
-        (now (table .exit))
-        progress
-        r
-        ⌝ }
-{
-    match progress {
-        Progress::On(state) => {
-            let here = state.next;
-            if !count_stands(text, here, b"CLOSED") {
-                return progress;
-            }
-            match count_line(text, here, b"CLOSED", 1, Job::NODES) {
-                CountLine::Count(count, next) => {
-                    let mut job = state.job;
-                    job.closed = count;
-                    entry_lines(text, next, Entries::Closed, job, &[], count, table)
-                }
-                CountLine::Refused(r) => Progress::Refused(r),
-            }
-        }
-        Progress::Refused(r) => Progress::Refused(r),
-    }
-}
-
-// How many closed nodes were read; none where the text is refused.
-pub(crate) fn closed_count(progress: Progress) -> usize
-    ensures { λ r. ⌜ r ≡ closedIn progress ⌝ }
-{
-    match progress {
-        Progress::On(state) => {
-            let job = state.job;
-            job.closed
-        }
-        Progress::Refused(_) => 0,
-    }
-}
-
-// `CARRIERS k`: its count, and k moves, whose ends may not be among the closed nodes that were read.
-pub(crate) fn carriers_section(
+// A section: its table becomes zero, then its count is read, and as many entries, if it lists any, go in
+// front of the zeros; the ends of moves may not be among the closed nodes so far. Where no line of its count
+// stands and it may be missing, nothing more changes: the cursor stays, and the next step asks for its own
+// line there. A section without entries leaves the table that it is lent.
+pub(crate) fn section(
     text: &[u8],
     progress: Progress,
+    which: Sections,
     closed: &[u16],
     table: &mut [u16],
 ) -> Progress
-    requires { ⌜
-        Ready (now text) (now closed) carriersSection progress
-        × (moveNumbers ≤ length (now table))
-        ⌝ }
+    requires { ⌜ Ready (now text) (now closed) which progress × (roomOf which ≤ length (now table)) ⌝ }
     ensures { λ r. ⌜
-        SectionStep (now (text .entry)) (now (closed .entry)) carriersSection putCarriers moveNumbers
-        (now (table .entry))
-        (now (table .exit))
-        progress
-        r
+        SectionStep (now (text .entry)) (now (closed .entry)) which
+        (now (table .entry)) (now (table .exit)) progress r
         ⌝ }
 {
-    match progress {
-        Progress::On(state) => {
-            let here = state.next;
-            match count_line(text, here, b"CARRIERS", 0, Job::CARRIERS) {
-                CountLine::Count(count, next) => {
-                    let mut job = state.job;
-                    job.carriers = count;
-                    entry_lines(text, next, Entries::Moves, job, closed, count, table)
-                }
-                CountLine::Refused(r) => Progress::Refused(r),
-            }
+    let Progress::On(before, here) = progress else {
+        return progress;
+    };
+    let terms = terms_of(which, before.carriers);
+    zero_first(table, terms.room);
+    let Numbered::Got(number, next) = counted(text, here, terms.from, terms.to) else {
+        if terms.optional {
+            return progress;
         }
-        Progress::Refused(r) => Progress::Refused(r),
+        return refused(Fault::Malformed, here);
+    };
+    let count = number as usize;
+    if count < terms.least {
+        return refused(Fault::BadCount, here);
     }
-}
-
-// `ORDER k`: as many places as there are carriers.
-pub(crate) fn order_section(text: &[u8], progress: Progress, table: &mut [u16]) -> Progress
-    requires { ⌜ Ready (now text) [] orderSection progress × (carrierLimit ≤ length (now table)) ⌝ }
-    ensures { λ r. ⌜
-        SectionStep (now (text .entry)) [] orderSection putNone carrierLimit
-        (now (table .entry))
-        (now (table .exit))
-        progress
-        r
-        ⌝ }
-{
-    match progress {
-        Progress::On(state) => {
-            let here = state.next;
-            let job = state.job;
-            match count_line(text, here, b"ORDER", job.carriers, job.carriers) {
-                CountLine::Count(count, next) => {
-                    entry_lines(text, next, Entries::Places, job, &[], count, table)
-                }
-                CountLine::Refused(r) => Progress::Refused(r),
-            }
-        }
-        Progress::Refused(r) => Progress::Refused(r),
+    if terms.greatest < count {
+        return refused(Fault::BadCount, here);
     }
-}
-
-// `DWELL w`: its count. Where no such line stands the section is missing: the cursor stays, and the end of
-// the text is asked for there.
-pub(crate) fn dwell_section(text: &[u8], progress: Progress) -> Progress
-    requires { ⌜ Ready (now text) [] dwellSection progress ⌝ }
-    ensures { λ r. ⌜ SectionStep (now (text .entry)) [] dwellSection putDwell 0 [] [] progress r ⌝ }
-{
-    match progress {
-        Progress::On(state) => {
-            let here = state.next;
-            if !count_stands(text, here, b"DWELL") {
-                return progress;
-            }
-            match count_line(text, here, b"DWELL", 1, Job::DWELL) {
-                CountLine::Count(count, next) => {
-                    let mut job = state.job;
-                    job.dwell = count;
-                    Progress::On(State { job, next })
-                }
-                CountLine::Refused(r) => Progress::Refused(r),
-            }
-        }
-        Progress::Refused(r) => Progress::Refused(r),
-    }
+    let job = with_count(which, count, before);
+    let Sections::Listed(entries) = which else {
+        return Progress::On(job, next);
+    };
+    let shut = before.closed;
+    entry_lines(text, next, entries, job, &closed[..shut], count, table)
 }
 
 // The end of the text: no byte may be left.
@@ -206,13 +185,14 @@ pub(crate) fn at_end(text: &[u8], progress: Progress) -> Read
     ensures { λ r. ⌜ EndStep (now (text .entry)) progress r ⌝ }
 {
     match progress {
-        Progress::On(state) => {
-            let here = state.next;
+        Progress::On(job, here) => {
             let at = here.at;
             if at < text.len() {
-                return Read::Refused(refusal(Fault::Malformed, here));
+                return Read::Refused(Refusal {
+                    fault: Fault::Malformed,
+                    place: here.line,
+                });
             }
-            let job = state.job;
             Read::Job(job)
         }
         Progress::Refused(r) => Read::Refused(r),

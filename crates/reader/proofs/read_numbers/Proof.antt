@@ -1,12 +1,10 @@
--- `reader::read_numbers` meets its contract: a table is too short; or the text was read into zeroed
--- tables, and after a refusal they were zeroed again. Each answer is one law of Outcomes.antt. Assumes
+-- `reader::read_numbers` meets its contract: a table is too short; or the text was read, and after a refusal
+-- the tables were zeroed. Each answer is one law of Outcomes.antt, or what reading the text answers. Assumes
 -- nothing.
 use mathlib.Core.Path.{_∙_}
 use denote.Ref.{now}
-use Rattle.hall.specs.Limits.{nodeLimit, carrierLimit, laneNumbers, moveNumbers}
-use Rattle.hall.specs.Left.{zeroed}
 use Rattle.reader.specs.Reading.{AnyShort}
-use Rattle.reader.specs.Text.{Long, TextRead}
+use Rattle.reader.specs.Text.{Long}
 use Rattle.reader.proofs.Outcomes.{long-enough, read-short, read-accepted, read-refused}
 use borrow.Author.Needs.{needs}
 use Rattle.reader.proofs.read_numbers.Statement.{statement}
@@ -25,88 +23,66 @@ enough c =
     let a = c .before .before .before .before .before .before .before .args in
     long-enough (now (a .lanes)) (now (a .closed)) (now (a .moves)) (now (a .order)) (not-short c)
 
--- the text was read into zeroed tables
-into-zeros : (c : tie.After-read-text)
-    → let a = c .before .before .before .before .before .before .before .before .before .before .before .before .before .before .before .before .before .before .before .before .before .before .before .before .before .args in
-    let last = c .read-text .last in
-    TextRead (now (a .text))
-    (zeroed laneNumbers (now (a .lanes))) (zeroed nodeLimit (now (a .closed))) (zeroed moveNumbers (now (a .moves)))
-    (zeroed carrierLimit (now (a .order))) (last .1 .0) (last .1 .1 .0) (last .1 .1 .1 .0) (last .1 .1 .1 .1 .0)
-    (c .read-text .result)
-into-zeros c =
-    let z = c .before .before .before .before .before .before .before .before .before .before .before .before .before .zero-tables .ensures in
-    rw (z .0, z .1, z .2, z .3) at (c .read-text .ensures)
-
 too-short-requires : tie.Need-too-short-requires
 too-short-requires c κs = search needs
 
 returns : tie.Need-returns
 returns c = read-short _ _ _ _ _ (rw (c .if1 .taken) at (c .before .too-short .ensures))
 
-zero-tables-requires : tie.Need-zero-tables-requires
-zero-tables-requires c κs = search needs
-
 read-text-requires : tie.Need-read-text-requires
-read-text-requires c κs =
-    let z = c .before .before .before .before .before .before .before .before .before .before .before .before .zero-tables .kept in
-    let long = enough (c .before .before .before .before .before .before .before .before .before .before .before .before .before .before .before .before .before) in
-    record {
-      lanes-long = rw (z .0) (long .lanes-long);
-      closed-long = rw (z .1 .0) (long .closed-long);
-      moves-long = rw (z .1 .1 .0) (long .moves-long);
-      order-long = rw (z .1 .1 .1 .0) (long .order-long);
-    }
+read-text-requires c κs = enough (c .before .before .before .before)
 
 enum-told : tie.Need-enum-told
 enum-told c = search needs
 
-zero-tables-requires-2 : tie.Need-zero-tables-requires-2
-zero-tables-requires-2 c κs = search needs
+zero-first-requires : tie.Need-zero-first-requires
+zero-first-requires c κs = search needs
+
+zero-first-requires-2 : tie.Need-zero-first-requires-2
+zero-first-requires-2 c κs = search needs
+
+zero-first-requires-3 : tie.Need-zero-first-requires-3
+zero-first-requires-3 c κs = search needs
+
+zero-first-requires-4 : tie.Need-zero-first-requires-4
+zero-first-requires-4 c κs = search needs
 
 enum-told-2 : tie.Need-enum-told-2
 enum-told-2 c = search needs
 
 same-length : tie.Need-same-length
-same-length c = search needs
+same-length c = c .before .before .before .before .before .before .before .before .before .before .before .before .before .before .zero-first .kept .0 ∙ c .before .before .before .before .before .before .before .before .before .before .before .before .before .before .before .before .before .before .before .before .before .before .before .before .before .before .read-text .kept .1 .0
 
 same-length-2 : tie.Need-same-length-2
-same-length-2 c = search needs
+same-length-2 c = c .before .before .before .before .before .before .before .before .before .before .zero-first2 .kept .0 ∙ c .before .before .before .before .before .before .before .before .before .before .before .before .before .before .before .before .before .before .before .before .before .before .before .before .before .before .read-text .kept .1 .1 .0
 
 same-length-3 : tie.Need-same-length-3
-same-length-3 c = search needs
+same-length-3 c = c .before .before .before .before .before .before .zero-first3 .kept .0 ∙ c .before .before .before .before .before .before .before .before .before .before .before .before .before .before .before .before .before .before .before .before .before .before .before .before .before .before .read-text .kept .1 .1 .1 .0
 
 same-length-4 : tie.Need-same-length-4
-same-length-4 c = search needs
+same-length-4 c = c .before .before .zero-first4 .kept .0 ∙ c .before .before .before .before .before .before .before .before .before .before .before .before .before .before .before .before .before .before .before .before .before .before .before .before .before .before .read-text .kept .1 .1 .1 .1 .0
 
 returns-2 : tie.Need-returns-2
-returns-2 c =
-    let reading = c .before .before .before .before .before .before .before .before .before .before .before .before .before .before .before .before .before .before .before .before .before .before .before in
-    let told = c .before .before .before .before .before .before .before .before .before .before .before .before .before .enum-told .given .1 in
-    let same = reading .read-text .kept in
-    let zeros = c .before .before .before .before .before .before .before .before .before .before .before .before .before .before .before .before .before .before .before .before .before .before .before .before .before .before .before .before .before .before .before .before .before .before .before .before .zero-tables .kept in
-    let again = c .before .before .before .before .before .before .before .before .zero-tables2 .ensures in
-    rw (told, again .0, again .1, again .2, again .3)
-    (read-refused _ _ _ _ _ (not-short (c .before .before .before .before .before .before .before .before .before .before .before .before .before .before .before .before .before .before .before .before .before .before .before .before .before .before .before .before .before .before .before .before .before .before .before .before .before .before .before .before .before)) _ _ _ _ _ (rw told at (into-zeros reading))
-    (same .1 .0 ∙ zeros .0) (same .1 .1 .0 ∙ zeros .1 .0) (same .1 .1 .1 .0 ∙ zeros .1 .1 .0)
-    (same .1 .1 .1 .1 .0 ∙ zeros .1 .1 .1 .0))
+returns-2 c = let same = c .before .before .before .before .before .before .before .before .before .before .before .before .before .before .before .before .before .before .before .before .before .before .before .before .before .before .read-text .kept in
+    read-refused _ _ _ _ _ _ _ _ _ _ (c .before .before .before .before .before .before .before .before .before .before .before .before .before .before .before .before .before .before .before .before .before .before .before .before .before .before .read-text .ensures) _ (c .before .before .before .before .before .before .before .before .before .before .before .before .before .before .before .before .enum-told .given .1)
+    (not-short (c .before .before .before .before .before .before .before .before .before .before .before .before .before .before .before .before .before .before .before .before .before .before .before .before .before .before .before .before .before .before .before))
+    (same .1 .0) (same .1 .1 .0) (same .1 .1 .1 .0) (same .1 .1 .1 .1 .0) _ _ _ _
+    (c .before .before .before .before .before .before .before .before .before .before .before .before .before .before .zero-first .ensures) (c .before .before .before .before .before .before .before .before .before .before .zero-first2 .ensures) (c .before .before .before .before .before .before .zero-first3 .ensures) (c .before .before .zero-first4 .ensures)
 
 same-length-5 : tie.Need-same-length-5
-same-length-5 c = search needs
+same-length-5 c = c .before .before .before .before .before .before .before .before .before .before .read-text .kept .1 .0
 
 same-length-6 : tie.Need-same-length-6
-same-length-6 c = search needs
+same-length-6 c = c .before .before .before .before .before .before .before .before .before .before .read-text .kept .1 .1 .0
 
 same-length-7 : tie.Need-same-length-7
-same-length-7 c = search needs
+same-length-7 c = c .before .before .before .before .before .before .before .before .before .before .read-text .kept .1 .1 .1 .0
 
 same-length-8 : tie.Need-same-length-8
-same-length-8 c = search needs
+same-length-8 c = c .before .before .before .before .before .before .before .before .before .before .read-text .kept .1 .1 .1 .1 .0
 
 returns-3 : tie.Need-returns-3
-returns-3 c =
-    let told = c .enum-told2 .given .1 in
-    rw told
-    (read-accepted _ _ _ _ _ (not-short (c .before .before .before .before .before .before .before .before .before .before .before .before .before .before .before .before .before .before .before .before .before .before .before .before .before .before .before .before)) _ _ _ _ _ (rw told at (into-zeros (c .before .before .before .before .before .before .before .before .before .before))))
+returns-3 c = read-accepted _ _ _ _ _ _ _ _ _ _ (c .before .before .before .before .before .before .before .before .before .before .read-text .ensures) _ (c .enum-told2 .given .1)
 
 pub read-numbers-spec : {M : Type 1} → statement M
 read-numbers-spec =
@@ -114,10 +90,12 @@ read-numbers-spec =
     (tie.spec
     too-short-requires
     returns
-    zero-tables-requires
     read-text-requires
     enum-told
-    zero-tables-requires-2
+    zero-first-requires
+    zero-first-requires-2
+    zero-first-requires-3
+    zero-first-requires-4
     enum-told-2
     same-length
     same-length-2
