@@ -2,31 +2,39 @@
 -- before; and in no other way. The numbers come as the code has read them, with the equation that says where.
 -- The entry before entry k stands at k - 1. And whether a node is one of the first k entries (`Found`), entry
 -- by entry: `found-none`, `found-more`, `found-all`. Assumes nothing.
-use mathlib.Core.Path.{_≡_, sym, _∙_, ap, subst}
+--     Faulty     the list has an entry k, and it is faulty
+use mathlib.Core.Path.{_≡_, ap, subst}
 use mathlib.Core.Logic.{_⊎_, inl, inr}
 use mathlib.Core.Bool.{Bool, true, false}
 use mathlib.Core.List.{List}
 use Prim.Native.Nat.{ℕ, _+_, _-_, _≤_, _<_}
 use native.Mathlib.Decide.{ℕ-discrete}
 use native.Mathlib.Omega.{arith}
+use lib.Dec.{leb}
 use lib.ListN.{length, getD}
 use Rattle.hall.specs.Floor.{Closed}
 use Rattle.hall.specs.Rule.{Answers}
 use Rattle.hall.specs.Refusals.{ClosedFault, no-such-node, not-higher}
+use Rattle.network.proofs.Tests.{at-most-tells}
 
-module _ (nodes : ℕ) (closed : List ℕ) (k node : ℕ) (inside : k < length closed) (e : node ≡ getD closed k 0) where
-  pub no-node-bad : nodes ≤ node → (k < length closed) × ClosedFault nodes closed k
+abbrev pub Faulty : (nodes : ℕ) (closed : List ℕ) (k : ℕ) → Type 0
+Faulty nodes closed k = (k < length closed) × ClosedFault nodes closed k
+
+module _ (nodes : ℕ) (closed : List ℕ) (k node : ℕ)
+    (inside : k < length closed)
+    (e : node ≡ getD closed k 0) where
+  pub no-node-bad : nodes ≤ node → Faulty nodes closed k
   no-node-bad l = (inside, no-such-node (omega arith))
 
   sound-entry : node < nodes → ((j : ℕ) → j + 1 ≡ k → getD closed j 0 < node) → ¬ ClosedFault nodes closed k
   sound-entry l above (no-such-node x) = omega arith
   sound-entry l above (not-higher j s x) = omega (arith, above j s)
 
-  pub first-entry-sound : node < nodes → k ≡ 0 → ¬ ((k < length closed) × ClosedFault nodes closed k)
+  pub first-entry-sound : node < nodes → k ≡ 0 → ¬ Faulty nodes closed k
   first-entry-sound l z f = sound-entry l (λ j s. omega arith) (f .1)
 
   module _ (before : ℕ) (b : before ≡ getD closed (k - 1) 0) where
-    pub rising-entry-sound : node < nodes → before < node → ¬ ((k < length closed) × ClosedFault nodes closed k)
+    pub rising-entry-sound : node < nodes → before < node → ¬ Faulty nodes closed k
     rising-entry-sound l r f = sound-entry l above (f .1)
       where
         above : (j : ℕ) → j + 1 ≡ k → getD closed j 0 < node
@@ -34,8 +42,11 @@ module _ (nodes : ℕ) (closed : List ℕ) (k node : ℕ) (inside : k < length c
             let at : j ≡ k - 1 = omega arith in
             omega (arith, ap (λ (n : ℕ). getD closed n 0) at)
 
-    pub falling-entry-bad : (k ≡ 0 → ⊥) → node ≤ before → (k < length closed) × ClosedFault nodes closed k
+    pub falling-entry-bad : (k ≡ 0 → ⊥) → node ≤ before → Faulty nodes closed k
     falling-entry-bad later r = (inside, not-higher (k - 1) (omega arith) (omega arith))
+
+    pub later-entry-told : node < nodes → (k ≡ 0 → ⊥) → Answers (leb node before) (Faulty nodes closed k)
+    later-entry-told l later = at-most-tells node before (falling-entry-bad later) (rising-entry-sound l)
 
 -- ---- a node among the first entries
 

@@ -1,5 +1,6 @@
 -- The laws behind the checks from numbers, and that one answer fits each.
 pub mod Questions
+pub mod Tests
 pub mod LaneList
 pub mod ClosedList
 pub mod EntryKinds

@@ -79,4 +79,7 @@ module _ (N : Network) where
       without =
           let front = front-left-out more (lists ++ rest) no-more-counts in
           let end = end-left-out lists rest no-entries in
-          record { firsts = λ f p h. end .firsts f p (front .firsts f p h); nones = λ n. end .nones (front .nones n) }
+          record {
+            firsts = λ f p h. end .firsts f p (front .firsts f p h);
+            nones = λ n. end .nones (front .nones n);
+          }

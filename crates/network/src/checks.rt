@@ -86,7 +86,8 @@ pub(crate) fn number_at(list: &[u16], at: usize) -> u16
     0
 }
 
-// 4, 5 and 13, of one move at the place i: its ends are nodes, differ and are not closed.
+// 4, 5 and 13, of one move at the place i: its ends are nodes, differ and are not closed. `fault` is the one
+// that is looked for.
 fn check_ends(nodes: usize, closed: &[u16], start: u16, goal: u16, i: usize) -> Checked
     ensures { λ r. ⌜ Judged (only-at i (ends nodes (now (closed .entry)) (λ p. start) (λ p. goal))) r ⌝ }
 {
@@ -124,10 +125,10 @@ pub fn check_entry(nodes: usize, closed: &[u16], moves: &[u16], i: usize) -> Che
     check_ends(nodes, closed, start, goal, i)
 }
 
-// 7, at a place of the order: the entry is no carrier's number, or stands earlier. Past the order's end there
-// is none.
+// 7, at place p of the order, if it has such a place: the entry is no carrier's number, or stands earlier.
 fn order_fault(carriers: usize, order: &[u16], p: usize) -> bool
-    ensures { λ r. ⌜ Answers r ((p < length (now (order .entry))) × BadOrder-at carriers (now (order .entry)) p) ⌝ }
+    ensures { λ r. ⌜ Answers r
+        ((p < length (now (order .entry))) × BadOrder-at carriers (now (order .entry)) p) ⌝ }
 {
     if p >= order.len() {
         return false;
@@ -204,8 +205,8 @@ pub fn check_job(
     check_each(Entries::Places, nodes, carriers, closed, order)
 }
 
-// A network alone, 2 (nodes, lanes, closed nodes), then 3, then 12: the job on it that has no carriers, of
-// which nothing else is asked.
+// A network alone: 2 (nodes, lanes, closed nodes), then 3, then 12. It is checked as the job on it that has
+// no carriers, of which nothing more is asked that could fail.
 pub fn check_network(nodes: usize, lanes: &[u16], closed: &[u16]) -> Checked
     ensures { λ r. ⌜ Judged
         (networkQuestion (networkOf nodes (now (lanes .entry)) (now (closed .entry))))

@@ -48,10 +48,7 @@ fn closed_fault(nodes: usize, closed: &[u16], k: usize) -> bool
         return false;
     }
     let before = number_at(closed, k - 1);
-    if before < node {
-        return false;
-    }
-    true
+    before >= node
 }
 
 // 12, of the entry k: it is a node, and exceeds the one before.

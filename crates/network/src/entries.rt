@@ -1,7 +1,7 @@
-// The entries of a job's four lists, checked one after the other. Lanes, closed nodes, moves and places of the
-// order differ in what is asked of an entry and in how many numbers it takes, and in nothing else: so the kind
-// of list is a parameter, and the loop over its entries stands once. Lists of any length may be put, and an
-// entry that is not there has no fault.
+// The entries of a job's four lists, checked one after the other. Lanes, closed nodes, moves and places of
+// the order differ in what is asked of an entry and in how many numbers it takes, and in nothing else: so the
+// kind of list is a parameter, and the loop over its entries stands once. Lists of any length may be put, and
+// an entry that is not there has no fault.
 use crate::checks::check_entry;
 use crate::checks::check_place;
 use crate::closed::check_closed_node;

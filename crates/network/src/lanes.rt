@@ -37,15 +37,10 @@ fn lane_fault(nodes: usize, lanes: &[u16], k: usize) -> bool
     }
     let low_before = number_at(lanes, at - 2);
     let high_before = number_at(lanes, at - 1);
-    if low_before < low {
-        return false;
-    }
     if low_before == low {
-        if high_before < high {
-            return false;
-        }
+        return high_before >= high;
     }
-    true
+    low_before > low
 }
 
 // 3, of the lane k: its ends are nodes, the first below the second, and it exceeds the one before.

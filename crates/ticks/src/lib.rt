@@ -194,6 +194,7 @@ fn served(table: &[u16], order: &[u16], dwell: usize, room: usize) -> bool
     if dwell > Job::DWELL {
         return false;
     }
+    // Of an order neither nodes nor closed nodes are asked for: any number and any list can stand for them.
     let judged = check_each(Entries::Places, 0, count, order, order);
     match judged {
         Checked::Sound => true,

@@ -29,13 +29,13 @@ refused-requires : tie.Need-refused-requires
 refused-requires c κs = search needs
 
 returns : tie.Need-returns
-returns c = answered (c .refused .ensures) (asked-here (inl (c .before .if1 .taken)))
+returns c = answered (c .refused .ensures) (asked-here (inl (omega arith)))
 
 refused-requires-2 : tie.Need-refused-requires-2
 refused-requires-2 c κs = search needs
 
 returns-2 : tie.Need-returns-2
-returns-2 c = answered (c .refused2 .ensures) (asked-here (inr (c .before .if2 .taken)))
+returns-2 c = answered (c .refused2 .ensures) (asked-here (inr (omega arith)))
 
 refused-requires-3 : tie.Need-refused-requires-3
 refused-requires-3 c κs = search needs
@@ -44,7 +44,7 @@ returns-3 : tie.Need-returns-3
 returns-3 c =
     let three = c .before in
     answered (c .refused3 .ensures)
-    (asked-later (nodes-fine (three .before)) (asked-here (inl (three .if3 .taken))))
+    (asked-later (nodes-fine (three .before)) (asked-here (inl (omega arith))))
 
 refused-requires-4 : tie.Need-refused-requires-4
 refused-requires-4 c κs = search needs
@@ -64,7 +64,7 @@ returns-5 c =
     let four = five .before in
     answered (c .refused5 .ensures)
     (asked-later (nodes-fine (four .before .before))
-    (asked-later (lanes-fine four) (asked-here (five .if5 .taken))))
+    (asked-later (lanes-fine four) (asked-here (omega arith))))
 
 refused-requires-6 : tie.Need-refused-requires-6
 refused-requires-6 c κs = search needs
@@ -77,7 +77,7 @@ returns-6 c =
     answered (c .refused6 .ensures)
     (asked-later (nodes-fine (four .before .before))
     (asked-later (lanes-fine four)
-    (asked-later (within (five .if5 .left)) (asked-here (six .if6 .taken)))))
+    (asked-later (within (five .if5 .left)) (asked-here (omega arith)))))
 
 refused-requires-7 : tie.Need-refused-requires-7
 refused-requires-7 c κs = search needs
@@ -109,7 +109,7 @@ returns-8 c =
     (asked-later (lanes-fine four)
     (asked-later (within (five .if5 .left))
     (asked-later (within (six .if6 .left))
-    (asked-later (λ differ. differ (seven .if7 .left)) (asked-here (eight .if8 .taken)))))))
+    (asked-later (λ differ. differ (seven .if7 .left)) (asked-here (omega arith)))))))
 
 returns-9 : tie.Need-returns-9
 returns-9 c =

@@ -16,8 +16,8 @@ use Rattle.network.proofs.checks.check_job.Tie as tie
 abbrev job : tie.Start → Numbers
 job s =
     let args = s .args in
-    jobOf (networkOf (args .nodes) (args .lanes .now) (args .closed .now)) (args .moves .now) (args .order .now)
-    (args .dwell)
+    let network = networkOf (args .nodes) (args .lanes .now) (args .closed .now) in
+    jobOf network (args .moves .now) (args .order .now) (args .dwell)
 
 abbrev counted-by : Numbers → Question
 counted-by j =

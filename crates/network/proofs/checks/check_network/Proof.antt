@@ -1,5 +1,5 @@
--- `network::checks::check_network` meets its contract: the listed checks of a job without carriers are those of
--- its network (`network-alone`). Assumes nothing.
+-- `network::checks::check_network` meets its contract: the listed checks of a job without carriers are those
+-- of its network (`network-alone`). Assumes nothing.
 use borrow.Author.Needs.{needs}
 use Rattle.hall.specs.Floor.{networkOf}
 use Rattle.hall.proofs.Compose.{⇒-judged}

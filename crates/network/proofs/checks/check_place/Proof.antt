@@ -1,4 +1,4 @@
--- `network::checks::check_place` meets its contract: an entry is refused or sound as `order_fault` answers.
+-- `network::checks::check_place` meets its contract: a place is refused or sound as `order_fault` answers.
 -- Assumes nothing.
 use borrow.Author.Needs.{needs}
 use Rattle.hall.proofs.Answers.{affirmed, denied}
@@ -16,7 +16,8 @@ refused-requires c κs = search needs
 returns : tie.Need-returns
 returns c =
     let told = c .before in
-    answered (c .refused .ensures) (asked-here (affirmed _ (told .if1 .taken) (told .before .order-fault .ensures)))
+    answered (c .refused .ensures)
+    (asked-here (affirmed _ (told .if1 .taken) (told .before .order-fault .ensures)))
 
 returns-2 : tie.Need-returns-2
 returns-2 c = asked-clear (denied _ (c .if1 .left) (c .before .order-fault .ensures)) none-at-all

@@ -1,5 +1,5 @@
--- `network::checks::number_at` meets its contract: a number of the list is read, and past its end 0 stands for
--- it. Assumes nothing.
+-- `network::checks::number_at` meets its contract: a number of the list is read, and past its end `getD`
+-- answers 0, as the function does. Assumes nothing.
 use mathlib.Core.Path.{sym}
 use borrow.Author.Needs.{needs}
 use lib.ListN.{List·getD-eq-default}

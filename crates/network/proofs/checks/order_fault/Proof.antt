@@ -43,7 +43,8 @@ returns-2 : tie.Need-returns-2 Inv-loop μ-loop
 returns-2 c =
     let read = c .before in
     let args = read .before .before .before .args in
-    entry-bad (args .carriers) (args .order .now) (args .p) (read .number-at .result) (read .number-at .ensures)
+    entry-bad (args .carriers) (args .order .now) (args .p) (read .number-at .result)
+    (read .number-at .ensures)
     (read .before .if1 .left)
     (c .if2 .taken)
 
@@ -77,7 +78,8 @@ returns-4 c =
     let loop = c .before in
     let read = loop .before .before in
     let args = read .before .before .before .args in
-    entry-sound (args .carriers) (args .order .now) (args .p) (read .number-at .result) (read .number-at .ensures)
+    entry-sound (args .carriers) (args .order .now) (args .p) (read .number-at .result)
+    (read .number-at .ensures)
     (loop .before .if2 .left)
     (loop .loop .q)
     (c .loop-test .left)

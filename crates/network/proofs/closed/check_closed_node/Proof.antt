@@ -1,5 +1,5 @@
--- `network::closed::check_closed_node` meets its contract: an entry is refused or sound as `closed_fault` answers.
--- Assumes nothing.
+-- `network::closed::check_closed_node` meets its contract: an entry is refused or sound as `closed_fault`
+-- answers. Assumes nothing.
 use borrow.Author.Needs.{needs}
 use Rattle.hall.proofs.Answers.{affirmed, denied}
 use Rattle.hall.proofs.Compose.{answered, none-at-all}
@@ -16,7 +16,8 @@ refused-requires c κs = search needs
 returns : tie.Need-returns
 returns c =
     let told = c .before in
-    answered (c .refused .ensures) (asked-here (affirmed _ (told .if1 .taken) (told .before .closed-fault .ensures)))
+    answered (c .refused .ensures)
+    (asked-here (affirmed _ (told .if1 .taken) (told .before .closed-fault .ensures)))
 
 returns-2 : tie.Need-returns-2
 returns-2 c = asked-clear (denied _ (c .if1 .left) (c .before .closed-fault .ensures)) none-at-all

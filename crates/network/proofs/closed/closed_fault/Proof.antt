@@ -1,8 +1,7 @@
 -- `network::closed::closed_fault` meets its contract: the two numbers are read from the list, and each return
 -- cites the law of its case. Assumes nothing.
 use borrow.Author.Needs.{needs}
-use Rattle.network.proofs.ClosedList.{no-node-bad, first-entry-sound}
-use Rattle.network.proofs.ClosedList.{rising-entry-sound, falling-entry-bad}
+use Rattle.network.proofs.ClosedList.{no-node-bad, first-entry-sound, later-entry-told}
 use Rattle.network.proofs.closed.closed_fault.Statement.{statement}
 use Rattle.network.proofs.closed.closed_fault.Tie as tie
 
@@ -19,7 +18,8 @@ returns-2 : tie.Need-returns-2
 returns-2 c =
     let read = c .before in
     let args = read .before .before .before .args in
-    no-node-bad (args .nodes) (args .closed .now) (args .k) (read .number-at .result) (read .before .if1 .left)
+    no-node-bad (args .nodes) (args .closed .now) (args .k) (read .number-at .result)
+    (read .before .if1 .left)
     (read .number-at .ensures)
     (c .if2 .taken)
 
@@ -41,31 +41,16 @@ number-at-requires-2 c κs = search needs
 
 returns-4 : tie.Need-returns-4
 returns-4 c =
-    let earlier = c .before in
-    let later = earlier .before in
+    let later = c .before in
     let read = later .before .before in
     let args = read .before .before .before .args in
-    rising-entry-sound (args .nodes) (args .closed .now) (args .k) (read .number-at .result)
+    later-entry-told (args .nodes) (args .closed .now) (args .k) (read .number-at .result)
     (read .before .if1 .left)
     (read .number-at .ensures)
-    (earlier .number-at2 .result)
-    (earlier .number-at2 .ensures)
+    (c .number-at2 .result)
+    (c .number-at2 .ensures)
     (later .before .if2 .left)
-    (c .if4 .taken)
-
-returns-5 : tie.Need-returns-5
-returns-5 c =
-    let earlier = c .before in
-    let later = earlier .before in
-    let read = later .before .before in
-    let args = read .before .before .before .args in
-    falling-entry-bad (args .nodes) (args .closed .now) (args .k) (read .number-at .result)
-    (read .before .if1 .left)
-    (read .number-at .ensures)
-    (earlier .number-at2 .result)
-    (earlier .number-at2 .ensures)
     (later .if3 .left)
-    (c .if4 .left)
 
 pub closed-fault-spec : {M : Type 1} → statement M
 closed-fault-spec =
@@ -78,5 +63,4 @@ closed-fault-spec =
     returns-3
     sub-number-at
     number-at-requires-2
-    returns-4
-    returns-5)
+    returns-4)

@@ -60,8 +60,8 @@ loop-again c =
 
 returns-2 : tie.Need-returns-2 Inv-loop μ-loop
 returns-2 c =
-    let args = c .before .before .before .before .before .args in
-    let checks = checksIn (args .which) (args .nodes) (args .carriers) (args .closed .now) (args .list .now) in
+    let a = c .before .before .before .before .before .args in
+    let checks = checksIn (a .which) (a .nodes) (a .carriers) (a .closed .now) (a .list .now) in
     let inv = c .before .loop .inv in
     stage-ends checks (omega (arith, c .loop-test .left, inv .0)) (inv .2)
 

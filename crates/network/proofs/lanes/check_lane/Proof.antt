@@ -1,4 +1,4 @@
--- `network::lanes::check_lane` meets its contract: an entry is refused or sound as `lane_fault` answers.
+-- `network::lanes::check_lane` meets its contract: a lane is refused or sound as `lane_fault` answers.
 -- Assumes nothing.
 use borrow.Author.Needs.{needs}
 use Rattle.hall.proofs.Answers.{affirmed, denied}
@@ -16,7 +16,8 @@ refused-requires c κs = search needs
 returns : tie.Need-returns
 returns c =
     let told = c .before in
-    answered (c .refused .ensures) (asked-here (affirmed _ (told .if1 .taken) (told .before .lane-fault .ensures)))
+    answered (c .refused .ensures)
+    (asked-here (affirmed _ (told .if1 .taken) (told .before .lane-fault .ensures)))
 
 returns-2 : tie.Need-returns-2
 returns-2 c = asked-clear (denied _ (c .if1 .left) (c .before .lane-fault .ensures)) none-at-all

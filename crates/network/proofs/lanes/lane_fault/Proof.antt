@@ -1,9 +1,8 @@
 -- `network::lanes::lane_fault` meets its contract: the four numbers are read from the list, and each return
 -- cites the law of its case. Assumes nothing.
-use mathlib.Core.Logic.{inl, inr}
 use borrow.Author.Needs.{needs}
 use Rattle.network.proofs.LaneList.{falling-ends-bad, no-node-bad, first-lane-sound}
-use Rattle.network.proofs.LaneList.{rising-lane-sound, below-before-bad, again-bad}
+use Rattle.network.proofs.LaneList.{same-lower-told, other-lower-told}
 use Rattle.network.proofs.lanes.lane_fault.Statement.{statement}
 use Rattle.network.proofs.lanes.lane_fault.Tie as tie
 
@@ -26,9 +25,11 @@ returns-2 : tie.Need-returns-2
 returns-2 c =
     let high = c .before in
     let low = high .before in
-    let start = low .before .before .before in
-    falling-ends-bad (start .args .nodes) (start .args .lanes .now) (start .args .k) (low .number-at .result) (high .number-at2 .result)
-    (low .before .if1 .left) (low .number-at .ensures)
+    let args = low .before .before .before .args in
+    falling-ends-bad (args .nodes) (args .lanes .now) (args .k) (low .number-at .result)
+    (high .number-at2 .result)
+    (low .before .if1 .left)
+    (low .number-at .ensures)
     (high .number-at2 .ensures)
     (c .if2 .taken)
 
@@ -39,9 +40,11 @@ returns-3 : tie.Need-returns-3
 returns-3 c =
     let high = c .before .before in
     let low = high .before in
-    let start = low .before .before .before in
-    no-node-bad (start .args .nodes) (start .args .lanes .now) (start .args .k) (low .number-at .result) (high .number-at2 .result)
-    (low .before .if1 .left) (low .number-at .ensures)
+    let args = low .before .before .before .args in
+    no-node-bad (args .nodes) (args .lanes .now) (args .k) (low .number-at .result)
+    (high .number-at2 .result)
+    (low .before .if1 .left)
+    (low .number-at .ensures)
     (high .number-at2 .ensures)
     (c .if3 .taken)
 
@@ -50,9 +53,11 @@ returns-4 c =
     let node = c .before in
     let high = node .before .before in
     let low = high .before in
-    let start = low .before .before .before in
-    first-lane-sound (start .args .nodes) (start .args .lanes .now) (start .args .k) (low .number-at .result) (high .number-at2 .result)
-    (low .before .if1 .left) (low .number-at .ensures)
+    let args = low .before .before .before .args in
+    first-lane-sound (args .nodes) (args .lanes .now) (args .k) (low .number-at .result)
+    (high .number-at2 .result)
+    (low .before .if1 .left)
+    (low .number-at .ensures)
     (high .number-at2 .ensures)
     (node .before .if2 .left)
     (node .if3 .left)
@@ -74,12 +79,15 @@ returns-5 : tie.Need-returns-5
 returns-5 c =
     let high₀ = c .before in
     let low₀ = high₀ .before in
-    let node = low₀ .before .before in
+    let later = low₀ .before in
+    let node = later .before in
     let high = node .before .before in
     let low = high .before in
-    let start = low .before .before .before in
-    rising-lane-sound (start .args .nodes) (start .args .lanes .now) (start .args .k) (low .number-at .result) (high .number-at2 .result)
-    (low .before .if1 .left) (low .number-at .ensures)
+    let args = low .before .before .before .args in
+    same-lower-told (args .nodes) (args .lanes .now) (args .k) (low .number-at .result)
+    (high .number-at2 .result)
+    (low .before .if1 .left)
+    (low .number-at .ensures)
     (high .number-at2 .ensures)
     (low₀ .number-at3 .result)
     (high₀ .number-at4 .result)
@@ -87,18 +95,22 @@ returns-5 c =
     (high₀ .number-at4 .ensures)
     (node .before .if2 .left)
     (node .if3 .left)
-    (inl (c .if5 .taken))
+    (later .if4 .left)
+    (c .if5 .taken)
 
 returns-6 : tie.Need-returns-6
 returns-6 c =
-    let high₀ = c .before .before .before in
+    let high₀ = c .before in
     let low₀ = high₀ .before in
-    let node = low₀ .before .before in
+    let later = low₀ .before in
+    let node = later .before in
     let high = node .before .before in
     let low = high .before in
-    let start = low .before .before .before in
-    rising-lane-sound (start .args .nodes) (start .args .lanes .now) (start .args .k) (low .number-at .result) (high .number-at2 .result)
-    (low .before .if1 .left) (low .number-at .ensures)
+    let args = low .before .before .before .args in
+    other-lower-told (args .nodes) (args .lanes .now) (args .k) (low .number-at .result)
+    (high .number-at2 .result)
+    (low .before .if1 .left)
+    (low .number-at .ensures)
     (high .number-at2 .ensures)
     (low₀ .number-at3 .result)
     (high₀ .number-at4 .result)
@@ -106,45 +118,8 @@ returns-6 c =
     (high₀ .number-at4 .ensures)
     (node .before .if2 .left)
     (node .if3 .left)
-    (inr (c .before .if6 .taken, c .if7 .taken))
-
-returns-7 : tie.Need-returns-7
-returns-7 c =
-    let high₀ = c .before .before .before in
-    let low₀ = high₀ .before in
-    let node = low₀ .before .before in
-    let high = node .before .before in
-    let low = high .before in
-    let start = low .before .before .before in
-    again-bad (start .args .nodes) (start .args .lanes .now) (start .args .k) (low .number-at .result) (high .number-at2 .result)
-    (low .before .if1 .left) (low .number-at .ensures)
-    (high .number-at2 .ensures)
-    (low₀ .number-at3 .result)
-    (high₀ .number-at4 .result)
-    (low₀ .number-at3 .ensures)
-    (high₀ .number-at4 .ensures)
-    (low₀ .before .if4 .left)
-    (c .before .before .if5 .left)
-    (c .if7 .left)
-
-returns-8 : tie.Need-returns-8
-returns-8 c =
-    let high₀ = c .before .before in
-    let low₀ = high₀ .before in
-    let node = low₀ .before .before in
-    let high = node .before .before in
-    let low = high .before in
-    let start = low .before .before .before in
-    below-before-bad (start .args .nodes) (start .args .lanes .now) (start .args .k) (low .number-at .result) (high .number-at2 .result)
-    (low .before .if1 .left) (low .number-at .ensures)
-    (high .number-at2 .ensures)
-    (low₀ .number-at3 .result)
-    (high₀ .number-at4 .result)
-    (low₀ .number-at3 .ensures)
-    (high₀ .number-at4 .ensures)
-    (low₀ .before .if4 .left)
-    (c .before .if5 .left)
-    (c .if6 .left)
+    (later .if4 .left)
+    (c .if5 .left)
 
 pub lane-fault-spec : {M : Type 1} → statement M
 lane-fault-spec =
@@ -164,6 +139,4 @@ lane-fault-spec =
     sub-number-at-2
     number-at-requires-4
     returns-5
-    returns-6
-    returns-7
-    returns-8)
+    returns-6)
