@@ -50,7 +50,8 @@ fn too_short(lanes: usize, closed: usize, moves: usize, order: usize) -> bool
 }
 
 // The sections in their order, into tables that are long enough, and the end. The nodes and the dwell go into
-// no table; before the closed nodes are read there are none.
+// no table, and leave the one that they are lent; before the closed nodes are read there are none. A refusal
+// passes through the steps behind it, so that the four tables have one way out.
 fn read_text(
     text: &[u8],
     lanes: &mut [u16],

@@ -1,0 +1,2 @@
+-- Records as numbers, and numbers as records.
+pub mod Columns
