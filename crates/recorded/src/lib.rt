@@ -1,13 +1,13 @@
-// A job with its carriers' records: what the questions of crate `jobs`, which lend them, promise (specs/), and
-// what these questions decide, as functions on numbers: what is answered, and how many records are written.
-// Every input is taken. A function over lent records is proved by hand, statement by statement; all else is
-// here, so that it is proved, and tried with mistakes, without those.
+// A job with its carriers' records: what the questions of crate `jobs`, which lend them, promise (specs/),
+// and what these questions decide, as functions on numbers: what is answered, and how many records are
+// written. Every input is taken. A function over lent records is proved by hand, statement by statement; all
+// else is here, so that it is proved, and tried with mistakes, without those.
 //
 // The moves of a job come loaded from its records into a list, with how many records there are beside it. The
 // part of the list that is handed on is theirs: its length tells `planner`, `asks` and `writer` how many
 // carriers the job has. The list is working memory of the caller: 260 bytes, for the moves of 65 records, one
-// more than a job can have. A job of more than 64 records is refused whatever the moves are, so the 65th tells
-// enough.
+// more than a job can have. A job of more than 64 records is refused whatever the moves are, so the 65th
+// tells enough.
 ghost use mathlib.Core.Path.{_≡_};
 ghost use Prim.Native.Nat.{min};
 ghost use denote.Ref.{now};

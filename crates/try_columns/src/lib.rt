@@ -1,13 +1,14 @@
 // A carrier's record as numbers, for programs that try the questions which take records: an array of 80
 // records from a list of numbers, and back. The numbers stand in four columns of 80: the starts, the goals,
-// the distances, the ticks. A list that is shorter is read as far as it goes and then as zeros, and written as
-// far as it goes; a start, goal or distance above 65,535 counts as 65,535. What is public takes every input,
-// and its promise is an equation (specs/Columns.antt).
+// the distances, the ticks. A list that is shorter is read as far as it goes and then as zeros, and written
+// as far as it goes; a start, goal or distance above 65,535 counts as 65,535. What is public takes every
+// input, and its promise is an equation (specs/Columns.antt).
 ghost use mathlib.Core.Path.{_≡_};
 ghost use Prim.Native.Nat.{_<_, min};
 ghost use lib.ListN.{set};
 ghost use denote.Ref.{now};
-ghost use Rattle.try_columns.specs.Columns.{lendable, halfOf, numberIn, recordFrom, madeOf, tellTo, toldTo};
+ghost use Rattle.try_columns.specs.Columns.{lendable, halfOf, numberIn, recordFrom};
+ghost use Rattle.try_columns.specs.Columns.{madeOf, tellTo, toldTo};
 use records::Record;
 
 // How many records are made, and how long a column is.

@@ -1,6 +1,6 @@
 // The questions that take records. The records' numbers are `fields`, in four columns of 80: the starts, the
-// goals, the distances, the ticks (crate `try_records`). A job that is to be written is loaded here too, and handed
-// on to `written`.
+// goals, the distances, the ticks (crate `try_records`). A job that is to be written is loaded here too, and
+// handed on to `written`.
 use super::marked::lend_shorts;
 use super::marked::print_numbers;
 use super::marked::print_shorts;

@@ -1,7 +1,7 @@
 // Answers the cases of a batch on standard input, many in one process, so that the library can be compared
 // with the second planner: the kinds that lend tables of their least lengths. The kinds with lent tables of
-// other lengths are answered by the program `try_marked`. The answers are the library's; this program only takes
-// the cases apart and prints.
+// other lengths are answered by the program `try_marked`. The answers are the library's; this program only
+// takes the cases apart and prints.
 mod cases;
 mod numbers;
 mod written;
