@@ -1,33 +1,33 @@
 // The batch format: many questions in one file, so that one process answers
 // them all. A case is one byte of kind, the payload's length as four bytes,
-// and the payload, which the README lists by kind. This file has the cases and
-// their kinds; coding.rs puts them into a file and takes them out.
+// and the payload, which has one layout for all kinds. This file has the cases
+// and their kinds; coding.rs puts them into a file and takes them out. How many
+// places of a table are lent is in the case; least_cases.rs makes those that
+// lend the least.
 
-use crate::job::{Hall, Job, Move};
+use crate::job::{Hall, Move};
 use crate::lent_jobs::{Listed, Recorded};
 
 #[derive(Clone)]
 pub enum Case {
     /// `P`: plan a text.
     Plan { text: Vec<u8> },
-    /// `R`: only read a text.
-    Read { text: Vec<u8> },
-    /// `H`: house path of a carrier of a job.
-    PathOfCarrier { carrier: u16, text: Vec<u8> },
-    /// `h`: house path of a move.
-    PathOfMove { asked: Move, text: Vec<u8> },
+    /// `H`: house path of a carrier of a job, into a lent list.
+    PathOfCarrier { path: u16, carrier: u16, text: Vec<u8> },
+    /// `h`: house path of a move, into a lent list.
+    PathOfMove { path: u16, asked: Move, text: Vec<u8> },
     /// `Q`: question about one list for a carrier of a job.
     JudgeForCarrier { carrier: u16, list: Vec<u16>, text: Vec<u8> },
     /// `q`: question about one list for a move.
     JudgeForMove { asked: Move, list: Vec<u16>, text: Vec<u8> },
     /// `C`: choice between two lists for a move.
     Choose { asked: Move, own: Vec<u16>, spare: Vec<u16>, text: Vec<u8> },
-    /// `N`: plan from numbers.
-    PlanNumbers { job: Job },
-    /// `n`: house path and question about one list from numbers.
-    MoveNumbers { hall: Hall, asked: Move, list: Vec<u16> },
-    /// `W`: write the job of a text, with so many further readings and writings.
-    WriteText { readings: u16, writings: u16, text: Vec<u8> },
+    /// `n`: house path, into a lent list, and question about one list from
+    /// numbers.
+    MoveNumbers { path: u16, asked: Move, list: Vec<u16>, hall: Hall },
+    /// `W`: write the job of a text into lent bytes, with so many further
+    /// readings and writings.
+    WriteText { out: u16, readings: u16, writings: u16, text: Vec<u8> },
     /// `r`: read a text into lanes, closed nodes, records and order of these
     /// lengths.
     ReadRecords { lent: [u16; 4], text: Vec<u8> },
@@ -54,23 +54,17 @@ pub enum Case {
 }
 
 /// All kinds, in the order in which the histogram shows them.
-pub const KINDS: &[u8] = b"PRHhQqCNnWrmaptowjcxy";
-
-/// The kinds that lend tables full of marks. A program of their own answers
-/// them.
-pub const MARKED_KINDS: &[u8] = b"rmaptowjcxy";
+pub const KINDS: &[u8] = b"PHhQqCnWrmaptowjcxy";
 
 impl Case {
     pub fn kind(&self) -> u8 {
         match self {
             Case::Plan { .. } => b'P',
-            Case::Read { .. } => b'R',
             Case::PathOfCarrier { .. } => b'H',
             Case::PathOfMove { .. } => b'h',
             Case::JudgeForCarrier { .. } => b'Q',
             Case::JudgeForMove { .. } => b'q',
             Case::Choose { .. } => b'C',
-            Case::PlanNumbers { .. } => b'N',
             Case::MoveNumbers { .. } => b'n',
             Case::WriteText { .. } => b'W',
             Case::ReadRecords { .. } => b'r',

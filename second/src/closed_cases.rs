@@ -10,6 +10,7 @@ use crate::dice::Dice;
 use crate::faults::{double_faults, larger_job, single_faults};
 use crate::halls::grid;
 use crate::job::{Hall, Move};
+use crate::least_cases::move_numbers;
 use crate::lent_cases::recorded;
 use crate::limits_closed::limit_cases;
 use crate::page;
@@ -47,7 +48,7 @@ fn unaware_cases(dice: &mut Dice) -> Vec<Case> {
             let (hall, job) = (hall.clone(), page::job(hall.clone(), &[(start, goal)]));
             let text = text::write(&job);
             cases.push(match cases.len() % 6 {
-                0 => Case::MoveNumbers { hall, asked, list: own },
+                0 => move_numbers(hall, asked, own),
                 1 => Case::JudgeForMove { asked, list: own, text },
                 2 => Case::JudgeForCarrier { carrier: 0, list: own, text },
                 3 => Case::JudgeRecords { carrier: 0, list: own, job: recorded(dice, &job) },

@@ -3,7 +3,7 @@
 // prints: a line `# i` before the answer to case i. A case passes if the
 // two answers are the same bytes; a missing answer is a failed case.
 
-use crate::answers;
+use crate::answers::printed_to;
 use crate::batch::Case;
 
 pub struct Comparison {
@@ -52,7 +52,7 @@ pub fn compare(cases: &[Case], file: &str) -> Comparison {
     let others = answers_in(file);
     let mut result = Comparison { passed: 0, failed: 0, report: String::new() };
     for (number, case) in cases.iter().enumerate() {
-        let own: String = answers::answers_to(case).iter().map(|answer| answer.printed()).collect();
+        let own = printed_to(case);
         let other = others.get(number).copied();
         if other == Some(own.as_str()) {
             result.passed += 1;

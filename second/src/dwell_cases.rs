@@ -9,6 +9,7 @@ use crate::dice::Dice;
 use crate::dwell_texts::{line_texts, spoiled_texts};
 use crate::faults::{faults_beside, too_long_dwells};
 use crate::job::Job;
+use crate::least_cases::read_text;
 use crate::limits_dwell::limit_cases;
 use crate::page;
 use crate::questions::{every_question, text_cases, with_a_move, with_the_job};
@@ -36,7 +37,7 @@ fn every_dwell(dice: &mut Dice) -> Vec<Case> {
         cases.push(Case::Plan { text: text.clone() });
         cases.push(with_the_job(dice, &job, (dwell % 3) as usize));
         cases.push(match dwell % 4 {
-            0 => Case::Read { text },
+            0 => read_text(text),
             1 => as_text(&job),
             2 => as_numbers(&job, out),
             _ => as_records(dice, &job, out),

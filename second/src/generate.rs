@@ -16,6 +16,7 @@ use crate::dwell_cases::dwell_cases;
 use crate::dwelling::dwelling_at_times;
 use crate::halls::{ample_job, any_hall, any_job, parted_job, through_one_corridor};
 use crate::job::Job;
+use crate::least_cases::{move_numbers, path_of_carrier, path_of_move, plan_numbers, read_text};
 use crate::lent_cases::{lent_cases, random_lent};
 use crate::limits::limit_cases;
 use crate::lists::{proposal, some_move};
@@ -148,8 +149,8 @@ fn question_case(dice: &mut Dice, turn: usize) -> Case {
     let carrier = some_carrier(dice, job.moves.len());
     let asked = some_move(dice, &job.hall);
     match turn % 5 {
-        0 => Case::PathOfCarrier { carrier, text },
-        1 => Case::PathOfMove { asked, text },
+        0 => path_of_carrier(carrier, text),
+        1 => path_of_move(asked, text),
         2 => {
             let own_move = job.moves.get(usize::from(carrier)).copied().unwrap_or(asked);
             let list = proposal(dice, &job.hall, own_move);
@@ -184,7 +185,7 @@ fn numbers_case(dice: &mut Dice, turn: usize) -> Case {
             }
         }
     }
-    Case::PlanNumbers { job }
+    plan_numbers(&job)
 }
 
 fn move_numbers_case(dice: &mut Dice) -> Case {
@@ -197,7 +198,7 @@ fn move_numbers_case(dice: &mut Dice) -> Case {
             damaged_hall(dice, &mut hall);
         }
     }
-    Case::MoveNumbers { hall, asked, list }
+    move_numbers(hall, asked, list)
 }
 
 fn random_case(dice: &mut Dice, number: usize) -> Case {
@@ -211,7 +212,7 @@ fn random_case(dice: &mut Dice, number: usize) -> Case {
             let text = some_plan_text(dice, turn);
             random_lent(dice, 4 * turn + place - 11, text)
         }
-        _ => Case::Read { text: some_plan_text(dice, turn) },
+        _ => read_text(some_plan_text(dice, turn)),
     }
 }
 

@@ -1,15 +1,18 @@
 // What a batch holds: how often each kind of case is accepted and how often
 // it meets each refusal, so that a reader sees at a glance what is missing.
 // Refusal 9 comes only where tables are lent with a length of their own, and
-// the column of 6, which is not in use, has zeros alone. What was planned and
-// what was written is told in a few lines below the table.
+// the column of 6, which is not in use, has zeros alone. What was chosen,
+// planned and written is told in a few lines below the table.
 
-use crate::answers::{answers_to, Answer};
+use crate::answers::answers_to;
 use crate::batch::{Case, KINDS};
 use crate::histogram_write::Written;
-use crate::job::{Job, MOST_DWELL};
-use crate::paths::Choice;
+use crate::job::{Job, Refusal, MOST_CARRIERS, MOST_DWELL};
+use crate::paths::{choose, Choice};
 use crate::text;
+
+/// A payload over so many bytes is large.
+const LARGE: usize = 8000;
 
 #[derive(Default)]
 struct Row {
@@ -25,8 +28,8 @@ struct Extra {
     own: usize,
     spare: usize,
     neither: usize,
-    /// Cases with a payload over 8,000 bytes, and accepted plans with 64
-    /// carriers among them: the ones that take long on a slow machine.
+    /// Cases with a large payload, and accepted plans with 64 carriers among
+    /// them: the ones that take long on a slow machine.
     large: usize,
     full_plans: usize,
     bytes: usize,
@@ -56,9 +59,19 @@ struct Shared {
 fn planned(case: &Case) -> Option<Job> {
     match case {
         Case::Plan { text } => text::read(text).ok(),
-        Case::PlanNumbers { job } => Some(job.clone()),
         Case::PlanRecords { job, .. } => Some(job.job()),
         Case::PlanLists { job, .. } => Some(job.job()),
+        _ => None,
+    }
+}
+
+/// What is chosen in a case with a choice, unless its text is not read.
+fn chosen(case: &Case) -> Option<Choice> {
+    match case {
+        Case::Choose { asked, own, spare, text } => {
+            text::read(text).ok().map(|job| choose(&job.hall, *asked, own, spare))
+        }
+        Case::ChooseNumbers { asked, own, spare, hall } => Some(choose(hall, *asked, own, spare)),
         _ => None,
     }
 }
@@ -70,11 +83,11 @@ fn repeats<T: Ord>(mut numbers: Vec<T>) -> bool {
 }
 
 impl Shared {
-    fn note(&mut self, case: &Case) {
-        let Job { hall, moves, dwell, .. } = match planned(case) {
-            Some(job) if job.moves.len() > 1 => job,
-            _ => return,
-        };
+    fn note(&mut self, job: &Job) {
+        let Job { hall, moves, dwell, .. } = job;
+        if moves.len() < 2 {
+            return;
+        }
         let start = repeats(moves.iter().map(|asked| asked.start).collect());
         let goal = repeats(moves.iter().map(|asked| asked.goal).collect());
         self.plans += 1;
@@ -84,10 +97,10 @@ impl Shared {
         self.both += usize::from(both);
         self.none += usize::from(!start && !goal);
         self.more_than_nodes += usize::from(moves.len() > hall.nodes as usize);
-        self.full += usize::from(moves.len() == 64);
+        self.full += usize::from(moves.len() == MOST_CARRIERS);
         self.closed += usize::from(!hall.closed.is_empty());
-        self.dwelling += usize::from(dwell > 0);
-        self.longest += usize::from(dwell == MOST_DWELL);
+        self.dwelling += usize::from(*dwell > 0);
+        self.longest += usize::from(*dwell == MOST_DWELL);
     }
 
     fn printed(&self) -> String {
@@ -111,22 +124,28 @@ impl Shared {
 }
 
 impl Extra {
-    fn note(&mut self, case: &Case, answer: &Answer) {
-        let from_numbers = b"Nnptowjxy".contains(&case.kind());
-        if let Some(refusal) = answer.refusal().filter(|refusal| refusal.number == 2) {
-            if from_numbers {
-                self.places[refusal.at] += 1;
-            }
+    fn note(&mut self, case: &Case) {
+        let length = case.payload().len();
+        self.bytes += length + 5;
+        self.longest = self.longest.max(length);
+        self.large += usize::from(length > LARGE);
+        match chosen(case) {
+            Some(Choice::Own) => self.own += 1,
+            Some(Choice::Spare) => self.spare += 1,
+            Some(Choice::Neither) => self.neither += 1,
+            None => {}
         }
-        match answer {
-            Answer::Chosen(Choice::Own) => self.own += 1,
-            Answer::Chosen(Choice::Spare) => self.spare += 1,
-            Answer::Chosen(Choice::Neither) => self.neither += 1,
-            Answer::Planned(plan) | Answer::PlannedNumbers(plan) if plan.ticks.len() == 64 => {
-                self.full_plans += usize::from(case.payload().len() > 8000);
-            }
-            _ => {}
+    }
+
+    fn note_refusal(&mut self, case: &Case, refusal: Refusal) {
+        if refusal.number == 2 && b"nptowjxy".contains(&case.kind()) {
+            self.places[refusal.at] += 1;
         }
+    }
+
+    fn note_plan(&mut self, case: &Case, job: &Job) {
+        let is_large = case.payload().len() > LARGE;
+        self.full_plans += usize::from(is_large && job.moves.len() == MOST_CARRIERS);
     }
 }
 
@@ -136,22 +155,21 @@ pub fn histogram(cases: &[Case]) -> String {
     let mut shared = Shared::default();
     let mut written = Written::default();
     for case in cases {
-        let length = case.payload().len();
-        extra.bytes += length + 5;
-        extra.longest = extra.longest.max(length);
-        extra.large += usize::from(length > 8000);
+        extra.note(case);
         let place = KINDS.iter().position(|&kind| kind == case.kind()).expect("a known kind");
         rows[place].cases += 1;
         for answer in answers_to(case) {
-            match answer.refusal() {
-                Some(refusal) => rows[place].refused[refusal.number as usize] += 1,
-                None => {
-                    rows[place].accepted += 1;
-                    shared.note(case);
-                }
-            }
-            extra.note(case, &answer);
             written.note(case, &answer);
+            if let Some(refusal) = answer.refusal() {
+                rows[place].refused[refusal.number as usize] += 1;
+                extra.note_refusal(case, refusal);
+                continue;
+            }
+            rows[place].accepted += 1;
+            if let Some(job) = planned(case) {
+                shared.note(&job);
+                extra.note_plan(case, &job);
+            }
         }
     }
     printed(&rows, &extra, &shared, &written)

@@ -6,7 +6,9 @@
 // lengths, what is filled and what stays. Reading, planning and writing have
 // files of their own; printing and paths are here.
 
-use crate::job::{refuse, Hall, Move, Refusal, MOST_CARRIERS, MOST_CLOSED, MOST_LANES, MOST_NODES};
+use crate::job::{
+    refuse, Hall, Job, Move, Refusal, MOST_CARRIERS, MOST_CLOSED, MOST_LANES, MOST_NODES,
+};
 use crate::lent_jobs::{Record, Recorded};
 use crate::paths::{choose, house_path_of_carrier, house_path_of_move, judge_for_carrier, Choice};
 
@@ -16,7 +18,7 @@ pub const BYTE_MARK: u32 = 77;
 
 /// How many places the batch program has for each table. A longer one is not
 /// lent; the generator stays below.
-pub const LANE_PLACES: usize = 8300;
+pub const LANE_PLACES: usize = 12_400;
 pub const CLOSED_PLACES: usize = 1100;
 pub const RECORD_PLACES: usize = 80;
 pub const ORDER_PLACES: usize = 100;
@@ -82,8 +84,22 @@ impl Columns {
         ])
     }
 
-    pub fn named(self) -> Vec<(&'static str, Vec<u32>)> {
-        ["starts", "goals", "distances", "ticks"].into_iter().zip(self.0).collect()
+    /// The records of so many carriers, which is at most as many as there is
+    /// room for.
+    pub fn records(&self, count: usize) -> Vec<Record> {
+        let [starts, goals, distances, ticks] = &self.0;
+        let short = |column: &[u32], i: usize| column[i] as u16;
+        let record = |i| Record {
+            asked: Move { start: short(starts, i), goal: short(goals, i) },
+            distance: short(distances, i),
+            tick: ticks[i],
+        };
+        (0..count.min(RECORD_PLACES)).map(record).collect()
+    }
+
+    /// All columns on one line.
+    pub fn table(self) -> (&'static str, Vec<u32>) {
+        ("records", self.0.concat())
     }
 }
 
@@ -113,10 +129,13 @@ fn housed(path: u16, asked: impl Fn() -> Result<Vec<u16>, Refusal>) -> Lent {
     Lent { said, tables: vec![("path", table)] }
 }
 
+pub fn house_of_carrier(path: u16, carrier: u16, job: &Job) -> Lent {
+    housed(path, || house_path_of_carrier(job, carrier))
+}
+
 pub fn house_of_records(path: u16, carrier: u16, recorded: &Recorded) -> Lent {
-    let job = recorded.job();
-    let mut lent = housed(path, || house_path_of_carrier(&job, carrier));
-    lent.tables.extend(Columns::of(&recorded.records).named());
+    let mut lent = house_of_carrier(path, carrier, &recorded.job());
+    lent.tables.push(Columns::of(&recorded.records).table());
     lent
 }
 
@@ -126,7 +145,7 @@ pub fn house_of_move(path: u16, asked: Move, hall: &Hall) -> Lent {
 
 pub fn judge_of_records(carrier: u16, list: &[u16], recorded: &Recorded) -> Lent {
     let said = judge_for_carrier(&recorded.job(), carrier, list).map(|()| "PASSED".to_string());
-    Lent { said, tables: Columns::of(&recorded.records).named() }
+    Lent { said, tables: vec![Columns::of(&recorded.records).table()] }
 }
 
 /// The choice with a network and a move, and how long the chosen list is.

@@ -25,16 +25,16 @@ pub const BYTES: Room = (LEAST_BYTES, BYTE_PLACES);
 /// Lengths of several tables: all least, all one more, all that there is, and
 /// each one short while the others are long enough; then all short, and none.
 pub fn length_rows<const TABLES: usize>(rooms: [Room; TABLES]) -> Vec<[u16; TABLES]> {
-    let least = least(rooms);
+    let (least, most) = (least(rooms), most(rooms));
     let mut rows = vec![
         least,
-        rooms.map(|(least, _)| least as u16 + 1),
-        rooms.map(|(_, places)| places as u16),
+        least.map(|length| length + 1),
+        most,
         least.map(|length| length - 1),
         [0; TABLES],
     ];
     for short in 0..TABLES {
-        let mut row = rooms.map(|(_, places)| places as u16);
+        let mut row = most;
         row[short] = least[short] - 1;
         rows.push(row);
     }
@@ -64,4 +64,9 @@ pub const FOR_MOVES: [Room; 4] = [LANES, CLOSED, MOVES, ORDER];
 /// The least length of each table.
 pub fn least<const TABLES: usize>(rooms: [Room; TABLES]) -> [u16; TABLES] {
     rooms.map(|(least, _)| least as u16)
+}
+
+/// All places that there are for each table.
+pub fn most<const TABLES: usize>(rooms: [Room; TABLES]) -> [u16; TABLES] {
+    rooms.map(|(_, places)| places as u16)
 }

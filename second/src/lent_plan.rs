@@ -72,7 +72,7 @@ pub fn records(table: u16, recorded: &Recorded) -> Lent {
     }
     let filled = after_planning(&planned, TABLE_PLACES, LEAST_TABLE, |_| distance_table(&job));
     let mut tables = vec![("table", filled)];
-    tables.extend(Columns::of(&left).named());
+    tables.push(Columns::of(&left).table());
     Lent { said: said_of_planning(&planned), tables }
 }
 

@@ -11,7 +11,7 @@ use crate::lent::{
 use crate::text;
 
 /// What an accepted text is answered with: its counts, and the dwell.
-pub fn counts(job: &Job) -> String {
+fn counts(job: &Job) -> String {
     let hall = &job.hall;
     let (lanes, closed) = (hall.lane_numbers.len() / 2, hall.closed.len());
     format!("READ {} {} {} {} {}", hall.nodes, lanes, closed, job.moves.len(), job.dwell)
@@ -69,7 +69,7 @@ pub fn to_records(lent: [u16; 4], source: &[u8]) -> Lent {
         column(|_| 0),
         column(|_| 0),
     ]);
-    reading.tables(columns.named())
+    reading.tables(vec![columns.table()])
 }
 
 /// Reading into lanes, closed nodes, moves and order of these lengths.

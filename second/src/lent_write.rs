@@ -1,20 +1,21 @@
-// What is left after writing a job into lent bytes, from numbers or from
-// records. Every byte holds its mark before. The text itself is told as it
-// stands, and all bytes behind it as the other tables are, so that a byte too
-// many or one that was not cleared is found out.
+// What is left after writing a job into lent bytes: that of a text, one from
+// numbers or one from records. Every byte holds its mark before. The text
+// itself is told as it stands, and all bytes behind it as the other tables are,
+// so that a byte too many or one that was not cleared is found out.
 
 use crate::job::Job;
 use crate::lent::{Columns, Lent, BYTE_MARK};
 use crate::lent_jobs::{Listed, Recorded};
-use crate::write::write;
+use crate::write::write_again;
 
 /// How many bytes the batch program has for a text. More are not lent; the
 /// generator stays below.
 pub const TEXT_PLACES: usize = 47_242;
 
-fn written(out: u16, job: &Job) -> Lent {
+/// Writing a job once and then so many times more.
+pub fn again(out: u16, writings: u16, job: &Job) -> Lent {
     let mut bytes = vec![BYTE_MARK as u8; TEXT_PLACES];
-    let length = write(&mut bytes[..TEXT_PLACES.min(out.into())], job);
+    let length = write_again(writings, &mut bytes[..TEXT_PLACES.min(out.into())], job);
     let behind = length.unwrap_or(0);
     let left = bytes[behind..].iter().map(|&byte| byte.into()).collect();
     let said = length.map(|length| {
@@ -28,12 +29,12 @@ fn written(out: u16, job: &Job) -> Lent {
 
 /// Writing from numbers: an odd last number of the moves is in no move.
 pub fn numbers(out: u16, listed: &Listed) -> Lent {
-    written(out, &listed.job())
+    again(out, 0, &listed.job())
 }
 
 /// Writing from records, which come back as they were.
 pub fn records(out: u16, recorded: &Recorded) -> Lent {
-    let mut lent = written(out, &recorded.job());
-    lent.tables.extend(Columns::of(&recorded.records).named());
+    let mut lent = again(out, 0, &recorded.job());
+    lent.tables.push(Columns::of(&recorded.records).table());
     lent
 }

@@ -10,6 +10,7 @@ use crate::closing::with_closed;
 use crate::dice::Dice;
 use crate::halls::{grid, job_apart, line, renumbered, scattered, zigzag};
 use crate::job::MOST_DWELL;
+use crate::least_cases::write_again;
 use crate::program_texts::longest_job;
 use crate::text;
 
@@ -42,5 +43,5 @@ pub fn batch(name: &str, count: usize) -> Option<Vec<Case>> {
 /// readings and writings.
 pub fn again(readings: u16, writings: u16, count: usize) -> Vec<Case> {
     let text = text::write(&longest_job());
-    (0..count).map(|_| Case::WriteText { readings, writings, text: text.clone() }).collect()
+    (0..count).map(|_| write_again(readings, writings, text.clone())).collect()
 }

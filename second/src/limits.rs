@@ -9,6 +9,7 @@ use crate::halls::{
     through_one_corridor, tree, two_parts, two_sided, zigzag,
 };
 use crate::job::{Hall, Job, Move};
+use crate::least_cases::{move_numbers, path_of_carrier, path_of_move, plan_numbers, read_text};
 use crate::lists::proposal;
 use crate::text;
 
@@ -132,7 +133,7 @@ fn past_the_limits(dice: &mut Dice) -> Vec<Case> {
     too_many_nodes.hall.nodes = 1025;
     for job in [too_many_nodes, full_random(dice, 4097, 8), full_random(dice, 1100, 65)] {
         cases.push(plan_case(text::write(&job)));
-        cases.push(Case::PlanNumbers { job });
+        cases.push(plan_numbers(&job));
     }
     for heading in [
         "NODES 1025",
@@ -163,20 +164,20 @@ fn numbers_at_the_limits(dice: &mut Dice) -> Vec<Case> {
         let even = full_random(dice, lanes, 64);
         let mut odd = even.clone();
         odd.hall.lane_numbers.pop();
-        cases.push(Case::PlanNumbers { job: even });
-        cases.push(Case::PlanNumbers { job: odd });
+        cases.push(plan_numbers(&even));
+        cases.push(plan_numbers(&odd));
     }
     for carriers in [64, 65, 70] {
         let hall = grid(1024, 32);
         let mut job = job_over(dice, hall, carriers, true);
-        cases.push(Case::PlanNumbers { job: job.clone() });
+        cases.push(plan_numbers(&job));
         job.order.push(0);
-        cases.push(Case::PlanNumbers { job });
+        cases.push(plan_numbers(&job));
     }
-    cases.push(Case::PlanNumbers { job: through_one_corridor(dice, 32, 960) });
+    cases.push(plan_numbers(&through_one_corridor(dice, 32, 960)));
     let cut_off = job_over(dice, two_parts(1024), 64, false);
     cases.push(plan_case(text::write(&cut_off)));
-    cases.push(Case::PlanNumbers { job: cut_off });
+    cases.push(plan_numbers(&cut_off));
     cases
 }
 
@@ -191,16 +192,16 @@ fn paths_at_the_limits(dice: &mut Dice) -> Vec<Case> {
         let asked = job.moves[usize::from(carrier)];
         let list = proposal(dice, &job.hall, asked);
         let spare = proposal(dice, &job.hall, asked);
-        cases.push(Case::Read { text: text.clone() });
-        cases.push(Case::PathOfCarrier { carrier, text: text.clone() });
+        cases.push(read_text(text.clone()));
+        cases.push(path_of_carrier(carrier, text.clone()));
         cases.push(Case::JudgeForCarrier { carrier, list: list.clone(), text: text.clone() });
         cases.push(Case::Choose { asked, own: list.clone(), spare, text: text.clone() });
-        cases.push(Case::MoveNumbers { hall: job.hall, asked, list });
+        cases.push(move_numbers(job.hall, asked, list));
     }
     let whole = to_and_fro(line(1024), 2);
     let asked = whole.moves[0];
     let list: Vec<u16> = (0..1024).collect();
-    cases.push(Case::PathOfMove { asked, text: text::write(&whole) });
+    cases.push(path_of_move(asked, text::write(&whole)));
     cases.push(Case::JudgeForMove { asked, list, text: text::write(&whole) });
     let endless = vec![0; 5000];
     cases.push(Case::JudgeForMove { asked, list: endless, text: text::write(&whole) });
@@ -228,7 +229,7 @@ fn long_texts(dice: &mut Dice) -> Vec<Case> {
         plan_case(tail(b'\n')),
         plan_case(noise),
         plan_case(vec![b'7'; 200_000]),
-        Case::Read { text: [&full[..], &tail(b'0')].concat() },
+        read_text([&full[..], &tail(b'0')].concat()),
     ]
 }
 

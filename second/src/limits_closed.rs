@@ -7,9 +7,9 @@ use crate::closing::with_closed;
 use crate::dice::Dice;
 use crate::halls::{grid, job_apart, job_over, line, ring, scattered, star};
 use crate::job::{Hall, Job, Move};
+use crate::least_cases::{move_numbers, path_of_move, plan_numbers, read_text};
 use crate::lent_cases::{list_for, recorded};
-use crate::lent_jobs::Listed;
-use crate::lent_lengths::{least, FOR_MOVES, FOR_RECORDS, TABLE, TIMES};
+use crate::lent_lengths::{least, most, FOR_MOVES, FOR_RECORDS, TABLE};
 use crate::network::Network;
 use crate::page;
 use crate::paths::house_path_of_move;
@@ -88,16 +88,16 @@ fn counts(dice: &mut Dice) -> Vec<Case> {
         let text = text::write(&job);
         let [table] = least([TABLE]);
         cases.push(Case::Plan { text: text.clone() });
-        cases.push(Case::Read { text: text.clone() });
+        cases.push(read_text(text.clone()));
         cases.push(Case::ReadRecords { lent: least(FOR_RECORDS), text: text.clone() });
-        cases.push(Case::ReadMoves { lent: least(FOR_MOVES), text });
+        cases.push(Case::ReadMoves { lent: most(FOR_MOVES), text });
         cases.push(Case::PlanRecords { table, job: recorded(dice, &job) });
-        cases.push(Case::PlanNumbers { job });
+        cases.push(plan_numbers(&job));
     }
     for count in [2000, 5000, 65_535] {
-        cases.push(Case::PlanNumbers { job: all_closed(bare(), count) });
+        cases.push(plan_numbers(&all_closed(bare(), count)));
         let hall = closing(line(1024), 0..count);
-        cases.push(Case::MoveNumbers { hall, asked: Move { start: 0, goal: 1 }, list: vec![0, 1] });
+        cases.push(move_numbers(hall, Move { start: 0, goal: 1 }, vec![0, 1]));
     }
     cases
 }
@@ -112,12 +112,11 @@ fn paths(dice: &mut Dice) -> Vec<Case> {
         let list = list_for(dice, &job.hall, asked);
         let all_open = closing(job.hall.clone(), std::iter::empty());
         let unaware = list_for(dice, &all_open, asked);
-        cases.push(Case::PathOfMove { asked, text: text.clone() });
+        cases.push(path_of_move(asked, text.clone()));
         cases.push(Case::JudgeForCarrier { carrier: 0, list: list.clone(), text: text.clone() });
         cases.push(Case::Choose { asked, own: unaware.clone(), spare: list, text });
-        cases.push(Case::MoveNumbers { hall: job.hall.clone(), asked, list: unaware });
-        let lent = least([TABLE, TIMES, TIMES]);
-        cases.push(Case::PlanLists { lent, job: Listed::of(&job) });
+        cases.push(move_numbers(job.hall.clone(), asked, unaware));
+        cases.push(plan_numbers(&job));
     }
     cases
 }

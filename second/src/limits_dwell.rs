@@ -7,9 +7,9 @@ use crate::batch::Case;
 use crate::dice::Dice;
 use crate::halls::line;
 use crate::job::{Job, MOST_DWELL};
+use crate::least_cases::plan_numbers;
 use crate::lent_cases::recorded;
-use crate::lent_jobs::Listed;
-use crate::lent_lengths::{least, BYTES, TABLE, TIMES};
+use crate::lent_lengths::{least, BYTES, TABLE};
 use crate::limits::full_jobs;
 use crate::page;
 use crate::program_texts::longest_job;
@@ -35,10 +35,10 @@ fn latest_ticks(dice: &mut Dice) -> Vec<Case> {
         cases.push(Case::Plan { text: text::write(&job) });
         cases.push(Case::PrintTo { out, text: text::write(&job) });
         cases.push(Case::PlanRecords { table, job: recorded(dice, &job) });
-        cases.push(Case::PlanLists { lent: least([TABLE, TIMES, TIMES]), job: Listed::of(&job) });
+        cases.push(plan_numbers(&job));
         let mut shuffled = job;
         dice.shuffle(&mut shuffled.order);
-        cases.push(Case::PlanNumbers { job: shuffled });
+        cases.push(plan_numbers(&shuffled));
     }
     cases
 }

@@ -29,6 +29,7 @@ mod halls;
 mod histogram;
 mod histogram_write;
 mod job;
+mod least_cases;
 mod lent;
 mod lent_cases;
 mod lent_jobs;
@@ -57,6 +58,7 @@ mod safe_print;
 mod safe_ticks;
 mod selftest;
 mod selftest_closed;
+mod selftest_coding;
 mod selftest_dwell;
 mod selftest_lent;
 mod selftest_refusals;
@@ -83,9 +85,9 @@ const USAGE: &str = "usage:
   second limit NAME COUNT FILE      write a batch that repeats a limit-size job
   second again READINGS WRITINGS COUNT FILE
                                     write a batch that reads and writes the longest text
-  second split FILE PLAIN MARKED    write the cases of a batch to two, by kind
+  second halves FILE ONE TWO        write the cases of a batch to two, by turns
   second safe FILE                  try all paths of small plans of a batch
-  second compare FILE ANSWERS      hold another program's answers to these
+  second compare FILE ANSWERS       hold another program's answers to these
   second show FILE CASE             write the payload of one case
   second texts FOLDER               write texts for the program, a file each
   second selftest                   check the cases of the rules
@@ -126,9 +128,7 @@ fn answer_command(path: &str) -> Result<bool, String> {
     let mut out = String::new();
     for (number, case) in cases_in(path)?.iter().enumerate() {
         out += &format!("# {}\n", number);
-        for answer in answers::answers_to(case) {
-            out += &answer.printed();
-        }
+        out += &answers::printed_to(case);
     }
     print(out.as_bytes())?;
     Ok(true)
@@ -154,12 +154,16 @@ fn again_command(readings: &str, writings: &str, count: &str, path: &str) -> Res
     Ok(true)
 }
 
-/// Every case goes to one of the two files, in the order of the batch.
-fn split_command(path: &str, plain: &str, marked: &str) -> Result<bool, String> {
-    let has_marks = |case: &batch::Case| batch::MARKED_KINDS.contains(&case.kind());
-    let (with, without): (Vec<_>, Vec<_>) = cases_in(path)?.into_iter().partition(has_marks);
-    write_batch(plain, &without)?;
-    write_batch(marked, &with)?;
+/// Cases with an even number go to the one file, all others to the other, in the
+/// order of the batch.
+fn halves_command(path: &str, one: &str, two: &str) -> Result<bool, String> {
+    let (mut even, mut odd) = (Vec::new(), Vec::new());
+    for (number, case) in cases_in(path)?.into_iter().enumerate() {
+        let half = if number % 2 == 0 { &mut even } else { &mut odd };
+        half.push(case);
+    }
+    write_batch(one, &even)?;
+    write_batch(two, &odd)?;
     Ok(true)
 }
 
@@ -216,7 +220,7 @@ fn main() -> ExitCode {
         ["again", readings, writings, count, path] => {
             again_command(readings, writings, count, path)
         }
-        ["split", path, plain, marked] => split_command(path, plain, marked),
+        ["halves", path, one, two] => halves_command(path, one, two),
         ["safe", path] => safe_command(path),
         ["compare", path, answers] => compare_command(path, answers),
         ["show", path, case] => show_command(path, case),

@@ -11,6 +11,7 @@ use crate::page;
 use crate::plan::plan;
 use crate::rule::Pair;
 use crate::selftest_closed;
+use crate::selftest_coding;
 use crate::selftest_dwell;
 use crate::selftest_lent;
 use crate::selftest_refusals;
@@ -135,6 +136,7 @@ pub fn run() -> (String, bool) {
     selftest_write::run(&mut checks);
     selftest_closed::run(&mut checks);
     selftest_dwell::run(&mut checks);
+    selftest_coding::run(&mut checks);
     let mut report = checks.failures.join("\n");
     if !report.is_empty() {
         report.push('\n');

@@ -4,10 +4,11 @@
 // count of nodes, and to the generator's own texts; and of texts that are too
 // long to be written, the beginning to the whole.
 
-use crate::answers::{answer_to_text, answers_to};
+use crate::answers::{answer_to_text, printed_to};
 use crate::batch::Case;
 use crate::dice::Dice;
 use crate::job::{refuse, Job, Move, Refusal};
+use crate::least_cases::write_again;
 use crate::lent_jobs::{Listed, Record, Recorded};
 use crate::lent_write;
 use crate::page;
@@ -65,8 +66,8 @@ fn from_records(checks: &mut Checks) {
     let job = page::printed_job();
     let record = |asked: &Move| Record { asked: *asked, distance: 9, tick: 65_536 };
     let records: Vec<Record> = job.moves.iter().map(record).collect();
-    let unchanged = "starts 1x0 1x4 1x2 77x7777\ngoals 1x4 1x0 1x1 77x7777\n\
-        distances 3x9 77x7777\nticks 3x65536 77x7777\n";
+    let unchanged = "records 1x0 1x4 1x2 77x7777 1x4 1x0 1x1 77x7777 \
+        3x9 77x7777 3x65536 77x7777\n";
     for (out, order, wanted) in [
         (47_142, [2, 1, 0], "out 47063x0 100x77"),
         (47_142, [2, 1, 3], "REFUSED 7 2\nout 47142x0 100x77"),
@@ -139,18 +140,27 @@ const DWELLING: &str = "NODES 1\nLANES 0\nCARRIERS 0\nORDER 0\nDWELL 100\n";
 fn texts(checks: &mut Checks) {
     let printed = PRINTED_JOB.as_bytes();
     checks.same("the bytes", text_of(&page::printed_job()), Ok(printed.to_vec()));
+    let accepted = format!("BYTES 69\n{}out 47073x0 100x77\n", PRINTED_JOB);
+    let dwelling = format!("BYTES 45\n{}out 47097x0 100x77\n", DWELLING);
     for (readings, writings, text, wanted) in [
-        (0, 0, PRINTED_JOB, PRINTED_JOB),
-        (2, 0, PRINTED_JOB, PRINTED_JOB),
-        (0, 3, PRINTED_JOB, PRINTED_JOB),
+        (0, 0, PRINTED_JOB, accepted.as_str()),
+        (2, 0, PRINTED_JOB, &accepted),
+        (0, 3, PRINTED_JOB, &accepted),
         (1, 0, &PRINTED_JOB[..68], "REFUSED 1 14\n"),
         (0, 1, "NODES 05\n", "REFUSED 1 1\n"),
         (0, 0, "NODES 1\nLANES 0\nCARRIERS 0\nORDER 1\n", "REFUSED 2 4\n"),
-        (2, 3, DWELLING, DWELLING),
+        (2, 3, DWELLING, &dwelling),
     ] {
-        let case = Case::WriteText { readings, writings, text: text.as_bytes().to_vec() };
-        let found: String = answers_to(&case).iter().map(|answer| answer.printed()).collect();
+        let found = printed_to(&write_again(readings, writings, text.as_bytes().to_vec()));
         checks.same("read and written", found.as_str(), wanted);
+    }
+    // A text that is not read is refused before bytes that are too few.
+    for (text, wanted) in
+        [(PRINTED_JOB, "REFUSED 9 0\nout 47242x77\n"), (&PRINTED_JOB[..68], "REFUSED 1 14\n")]
+    {
+        let text = text.as_bytes().to_vec();
+        let found = printed_to(&Case::WriteText { out: 47_141, readings: 1, writings: 1, text });
+        checks.same("read and written, too few", found.as_str(), wanted);
     }
 }
 

@@ -12,6 +12,7 @@
 use crate::batch::Case;
 use crate::halls::{complete, hall_of, line, ring, star};
 use crate::job::{Hall, Job, Move};
+use crate::least_cases::move_numbers;
 use crate::text;
 
 pub fn all_small_halls() -> Vec<Hall> {
@@ -102,7 +103,7 @@ fn paths_in(hall: &Hall) -> Vec<Case> {
             _ => vec![ends],
         };
         for list in lists {
-            cases.push(Case::MoveNumbers { hall: hall.clone(), asked, list });
+            cases.push(move_numbers(hall.clone(), asked, list));
         }
     }
     cases

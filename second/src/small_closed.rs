@@ -7,6 +7,7 @@
 
 use crate::batch::Case;
 use crate::job::{Hall, Job, Move};
+use crate::least_cases::{move_numbers, path_of_move, plan_numbers};
 use crate::network::Network;
 use crate::page;
 use crate::small::{all_lists, all_small_halls};
@@ -55,7 +56,7 @@ fn planned((number, job): (usize, Job)) -> Case {
     if all_open || number % 37 > 0 {
         Case::Plan { text: text::write(&job) }
     } else {
-        Case::PlanNumbers { job }
+        plan_numbers(&job)
     }
 }
 
@@ -85,7 +86,7 @@ fn paths_in(hall: &Hall) -> Vec<Case> {
     let mut cases = Vec::new();
     for asked in moves_in(hall) {
         if !has_open_ends(hall, asked) {
-            cases.push(Case::PathOfMove { asked, text: text.clone() });
+            cases.push(path_of_move(asked, text.clone()));
             continue;
         }
         let has_walk =
@@ -93,7 +94,7 @@ fn paths_in(hall: &Hall) -> Vec<Case> {
         let lists = if has_walk { lists_for(hall, asked) } else { vec![Vec::new()] };
         for (number, list) in lists.into_iter().enumerate() {
             cases.push(match number {
-                0 => Case::MoveNumbers { hall: hall.clone(), asked, list },
+                0 => move_numbers(hall.clone(), asked, list),
                 _ => Case::JudgeForMove { asked, list, text: text.clone() },
             });
         }

@@ -9,6 +9,7 @@ use crate::batch::Case;
 use crate::dice::Dice;
 use crate::halls::{grid, hall_of, line, scattered, tree};
 use crate::job::{Hall, Job, Move, MOST_DWELL};
+use crate::least_cases::plan_numbers;
 use crate::network::Network;
 use crate::text;
 
@@ -113,7 +114,7 @@ fn crossing(width: usize, trains: usize, carriers: usize) -> Job {
 
 /// The job as a text and from numbers.
 fn both_ways(job: Job) -> [Case; 2] {
-    [Case::Plan { text: text::write(&job) }, Case::PlanNumbers { job }]
+    [Case::Plan { text: text::write(&job) }, plan_numbers(&job)]
 }
 
 fn small_sites(dice: &mut Dice) -> Vec<Site> {
@@ -183,7 +184,7 @@ pub fn train_cases(dice: &mut Dice) -> Vec<Case> {
         for dwell in [0, MOST_DWELL] {
             job.dwell = dwell;
             cases.push(Case::Plan { text: text::write(&job) });
-            cases.push(Case::PlanNumbers { job: shuffled(dice, &job) });
+            cases.push(plan_numbers(&shuffled(dice, &job)));
         }
     }
     cases

@@ -89,18 +89,20 @@ fn size(job: &Job) -> usize {
     entries + job.order.len() + job.dwell as usize
 }
 
-/// The text of the job that a text holds. The text is read once and `readings`
-/// times more, and the job is written once and `writings` times more. The
-/// further ones are for the benchmark; what they give is added up and looked
-/// at, so that none of them can be left out.
-pub fn read_and_written(readings: u16, writings: u16, text: &[u8]) -> Result<Vec<u8>, Refusal> {
+/// The job of a text, which is read once and then so many times more. The
+/// further readings and writings are for the benchmark; what they give is added
+/// up and looked at, so that none of them can be left out.
+pub fn read_again(readings: u16, text: &[u8]) -> Result<Job, Refusal> {
     let job = text::read(text)?;
     let read: usize = (0..readings).map(|_| text::read(text).map_or(0, |again| size(&again))).sum();
     assert_eq!(read, usize::from(readings) * size(&job), "the same job each time");
-    let mut bytes = vec![0; LEAST_TEXT];
-    let length = write(&mut bytes, &job)?;
-    let written: usize = (0..writings).map(|_| write(&mut bytes, &job).unwrap_or(0)).sum();
+    Ok(job)
+}
+
+/// Writes a job once and then so many times more, each time over the last.
+pub fn write_again(writings: u16, lent: &mut [u8], job: &Job) -> Result<usize, Refusal> {
+    let length = write(lent, job)?;
+    let written: usize = (0..writings).map(|_| write(lent, job).unwrap_or(0)).sum();
     assert_eq!(written, usize::from(writings) * length, "the same text each time");
-    bytes.truncate(length);
-    Ok(bytes)
+    Ok(length)
 }

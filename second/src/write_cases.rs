@@ -8,6 +8,7 @@ use crate::dice::Dice;
 use crate::faults::faulty_jobs;
 use crate::generate::{noise, one_damage, several_damages, two_in_one_line};
 use crate::job::{Job, MOST_NODES};
+use crate::least_cases::{write_again, write_text};
 use crate::lent_texts::texts;
 use crate::lent_write::TEXT_PLACES;
 use crate::limits::full_jobs;
@@ -42,10 +43,6 @@ const LENGTHS: [usize; 16] = [
     TEXT_PLACES,
 ];
 
-fn plain(text: Vec<u8>) -> Case {
-    Case::WriteText { readings: 0, writings: 0, text }
-}
-
 /// Texts that are read and written again: every count of nodes, texts of all
 /// lengths with sound and with spoiled ends, faults of each number, and page
 /// 01's printed job with every seventh of the faults that a byte can have. Some
@@ -53,12 +50,12 @@ fn plain(text: Vec<u8>) -> Case {
 fn text_cases(dice: &mut Dice) -> Vec<Case> {
     let counted = |nodes: u32| as_text(&page::job(page::hall(nodes, &[]), &[]));
     let mut cases: Vec<Case> = (1..=MOST_NODES + 1).map(counted).collect();
-    cases.extend(program_texts::texts().into_iter().map(plain));
-    cases.extend(texts(dice).into_iter().map(plain));
-    cases.extend(spoiled_bytes(PRINTED_JOB.as_bytes()).into_iter().step_by(7).map(plain));
+    cases.extend(program_texts::texts().into_iter().map(write_text));
+    cases.extend(texts(dice).into_iter().map(write_text));
+    cases.extend(spoiled_bytes(PRINTED_JOB.as_bytes()).into_iter().step_by(7).map(write_text));
     for (readings, writings) in [(1, 0), (0, 1), (1, 1), (2, 3), (100, 0), (0, 100)] {
         for text in texts(dice) {
-            cases.push(Case::WriteText { readings, writings, text });
+            cases.push(write_again(readings, writings, text));
         }
     }
     cases
@@ -152,7 +149,7 @@ fn random_faulty(dice: &mut Dice, turn: usize) -> Case {
     let few = dice.below(LEAST_TEXT);
     let out = if dice.once_in(6) { few } else { enough(dice) };
     match turn % 3 {
-        0 => plain(damaged_text(dice, turn / 3)),
+        0 => write_text(damaged_text(dice, turn / 3)),
         1 if dice.once_in(3) => as_odd_numbers(dice, &job, out),
         1 => as_numbers(&job, out),
         _ => as_records(dice, &job, out),

@@ -10,6 +10,7 @@ use crate::dice::Dice;
 use crate::dwelling::dwelling_at_times;
 use crate::halls::{ample_job, any_job, hall_of, line, parted_job, two_parts};
 use crate::job::{Job, Move, MOST_CARRIERS, MOST_DWELL, MOST_LANES};
+use crate::least_cases::write_text;
 use crate::lent_jobs::{Listed, Record, Recorded};
 use crate::lent_write::TEXT_PLACES;
 use crate::page;
@@ -21,7 +22,7 @@ use crate::write::LEAST_TEXT;
 const EDGES: [u16; 9] = [0, 1, 9, 10, 99, 100, 999, 1000, 1023];
 
 pub fn as_text(job: &Job) -> Case {
-    Case::WriteText { readings: 0, writings: 0, text: text::write(job) }
+    write_text(text::write(job))
 }
 
 pub fn as_numbers(job: &Job, out: usize) -> Case {

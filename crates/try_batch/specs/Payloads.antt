@@ -10,15 +10,9 @@
 --     listIn s room         the list that stands at the front, or as much of it as there is room for: two
 --                           bytes count its numbers, which stand behind
 --     behindList s          what stands behind that list
---     laneRoom              how many places the room for lane numbers has: no more are taken from a network
---     laneCountIn s         how many lane numbers are taken from the network that stands at the front. They
---                           are counted by four bytes, behind the four that count its nodes
---     lanesIn s room        these lane numbers, or as many as there is room for
---     behindLanes s         what stands behind the lane numbers that are taken: the closed nodes, as a list
---     closedListIn s room   these closed nodes, or as many as there is room for
---     behindNetwork s       what stands behind them
---     markedRoom            how many bytes the room with marks has: more than an output of a text must have
---     byteMark              the mark that each of these bytes holds
+--     jobRoom               how many places the room for a list of a job has: no more of it are taken
+--     bodyIn s              what stands behind the four numbers and the two lists of a payload: a text, or a
+--                           job from numbers
 use mathlib.Core.List.{List, [], _∷_, _++_}
 use Prim.Native.Nat.{ℕ, zero, suc, _+_, _*_, min}
 use lib.ListN.{length, getD, drop}
@@ -48,26 +42,8 @@ listIn s room = shortsIn (drop 2 s) (min (shortIn s 0) room)
 abbrev pub behindList : List ℕ → List ℕ
 behindList s = drop (2 + 2 * shortIn s 0) s
 
-abbrev pub laneRoom : ℕ
-laneRoom = 16384
+abbrev pub jobRoom : ℕ
+jobRoom = 16384
 
-abbrev pub laneCountIn : List ℕ → ℕ
-laneCountIn s = min (longIn s 4) laneRoom
-
-abbrev pub lanesIn : List ℕ → (room : ℕ) → List ℕ
-lanesIn s room = shortsIn (drop 8 s) (min (laneCountIn s) room)
-
-abbrev pub behindLanes : List ℕ → List ℕ
-behindLanes s = drop (8 + 2 * laneCountIn s) s
-
-abbrev pub closedListIn : List ℕ → (room : ℕ) → List ℕ
-closedListIn s room = listIn (behindLanes s) room
-
-abbrev pub behindNetwork : List ℕ → List ℕ
-behindNetwork s = behindList (behindLanes s)
-
-abbrev pub markedRoom : ℕ
-markedRoom = 47242
-
-abbrev pub byteMark : ℕ
-byteMark = 77
+abbrev pub bodyIn : List ℕ → List ℕ
+bodyIn s = behindList (behindList (drop 8 s))

@@ -1,16 +1,11 @@
 // Numbers and lists of a payload, lowest byte first. What lies past its end reads as 0, so a case that is cut
 // off is answered by what there is of it, and no function here asks anything of its caller.
-use hall::Job;
 ghost use mathlib.Core.Path.{_≡_};
 ghost use Prim.Native.Nat.{min};
 ghost use lib.ListN.{length, take, drop, replicate};
 ghost use denote.Ref.{now};
-ghost use Rattle.hall.specs.Limits.{textRoom};
 ghost use Rattle.try_batch.specs.Payloads.{byteIn, shortIn, longIn, shortsIn, shortsOver};
-ghost use Rattle.try_batch.specs.Payloads.{listRoom, listIn, behindList};
-ghost use Rattle.try_batch.specs.Payloads.{laneRoom, laneCountIn, lanesIn, behindLanes};
-ghost use Rattle.try_batch.specs.Payloads.{closedListIn, behindNetwork};
-ghost use Rattle.try_batch.specs.Payloads.{markedRoom, byteMark};
+ghost use Rattle.try_batch.specs.Payloads.{listRoom, jobRoom, listIn, behindList, bodyIn};
 
 pub fn least(a: usize, b: usize) -> usize
     ensures { λ r. ⌜ r ≡ min a b ⌝ }
@@ -50,32 +45,19 @@ pub fn long_at(s: &[u8], at: usize) -> u32
     low + 65536 * high
 }
 
-// Room for a list, and for the numbers that a u32 counts: lane numbers, moves, an order. Closed nodes,
-// though a list, get the lesser room. A caller's proof has the length of an array that is returned from its
-// type; that of a literal it counts place by place, in every function that has one.
+// Room for a list of nodes, and for a list of a job: lane numbers, closed nodes, moves, an order. A caller's
+// proof has the length of an array that is returned from its type; that of a literal it counts place by
+// place, in every function that has one.
 pub fn list_room() -> [u16; 65535]
     ensures { λ r. ⌜ r ≡ replicate listRoom 0 ⌝ }
 {
     [0; 65535]
 }
 
-pub fn lane_room() -> [u16; 16384]
-    ensures { λ r. ⌜ r ≡ replicate laneRoom 0 ⌝ }
+pub fn job_room() -> [u16; 16384]
+    ensures { λ r. ⌜ r ≡ replicate jobRoom 0 ⌝ }
 {
     [0; 16384]
-}
-
-// Room for the text of any job, and a longer one that is full of marks.
-pub fn text_room() -> [u8; Job::TEXT_BYTES]
-    ensures { λ r. ⌜ r ≡ replicate textRoom 0 ⌝ }
-{
-    [0; Job::TEXT_BYTES]
-}
-
-pub fn marked_room() -> [u8; 47242]
-    ensures { λ r. ⌜ r ≡ replicate markedRoom byteMark ⌝ }
-{
-    [77; 47242]
 }
 
 // The front of a list, as much as `count` says and there is.
@@ -108,7 +90,7 @@ fn load(s: &[u8], count: usize, list: &mut [u16])
 
 // The first numbers, in the room that is lent for them. The answer is the front of the room; a room that is
 // lent on in an answer is one of which no contract can say what it holds at the end.
-pub fn loaded<'a>(s: &[u8], count: usize, room: &'a mut [u16]) -> &'a [u16]
+fn loaded<'a>(s: &[u8], count: usize, room: &'a mut [u16]) -> &'a [u16]
     ensures { λ r. ⌜ now r ≡ shortsIn (now (s .entry)) (min count (length (now (room .entry)))) ⌝ }
 {
     load(s, count, room);
@@ -130,37 +112,9 @@ pub fn behind_list(s: &[u8]) -> &[u8]
     rest(s, 2 + 2 * count)
 }
 
-// How many lane numbers a network has that stands at the front. More than 16,384 count as so many.
-fn lane_numbers(s: &[u8]) -> usize
-    ensures { λ r. ⌜ r ≡ laneCountIn (now (s .entry)) ⌝ }
+// What stands behind a payload's four numbers and two lists: a text, or a job from numbers.
+pub fn body(s: &[u8]) -> &[u8]
+    ensures { λ r. ⌜ now r ≡ bodyIn (now (s .entry)) ⌝ }
 {
-    least(long_at(s, 4) as usize, 16384)
-}
-
-// The lane numbers of a network that stands at the front.
-pub fn loaded_lanes<'a>(s: &[u8], room: &'a mut [u16]) -> &'a [u16]
-    ensures { λ r. ⌜ now r ≡ lanesIn (now (s .entry)) (length (now (room .entry))) ⌝ }
-{
-    loaded(rest(s, 8), lane_numbers(s), room)
-}
-
-// What stands behind its lane numbers: the closed nodes, as a list.
-fn behind_lanes(s: &[u8]) -> &[u8]
-    ensures { λ r. ⌜ now r ≡ behindLanes (now (s .entry)) ⌝ }
-{
-    rest(s, 8 + 2 * lane_numbers(s))
-}
-
-// The closed nodes of a network that stands at the front.
-pub fn loaded_closed<'a>(s: &[u8], room: &'a mut [u16]) -> &'a [u16]
-    ensures { λ r. ⌜ now r ≡ closedListIn (now (s .entry)) (length (now (room .entry))) ⌝ }
-{
-    loaded_list(behind_lanes(s), room)
-}
-
-// What stands behind a network.
-pub fn behind_network(s: &[u8]) -> &[u8]
-    ensures { λ r. ⌜ now r ≡ behindNetwork (now (s .entry)) ⌝ }
-{
-    behind_list(behind_lanes(s))
+    behind_list(behind_list(rest(s, 8)))
 }

@@ -9,7 +9,7 @@ use planner::Planned;
 use reader::Read;
 use writer::Written;
 ghost use mathlib.Core.Path.{_≡_};
-ghost use Rattle.try_batch.specs.Told.{costTold, nodesTold, bytesTold};
+ghost use Rattle.try_batch.specs.Told.{bytesTold};
 
 pub fn word(bytes: &[u8]) {
     io::write_all(STDOUT_FILENO, bytes);
@@ -55,35 +55,17 @@ pub fn read(answer: Read) {
     }
 }
 
-// Whether there is a cost.
-pub fn planned(answer: Planned) -> bool
-    ensures { λ r. ⌜ r ≡ costTold answer ⌝ }
-{
+pub fn planned(answer: Planned) {
     match answer {
-        Planned::Cost(cost) => {
-            line(b"COST ", cost as u64);
-            true
-        }
-        Planned::Refused(r) => {
-            refused(r);
-            false
-        }
+        Planned::Cost(cost) => line(b"COST ", cost as u64),
+        Planned::Refused(r) => refused(r),
     }
 }
 
-// How many nodes the path has, 0 where there is none.
-pub fn housed(answer: Housed) -> usize
-    ensures { λ r. ⌜ r ≡ nodesTold answer ⌝ }
-{
+pub fn housed(answer: Housed) {
     match answer {
-        Housed::Nodes(count) => {
-            line(b"PATH ", count as u64);
-            count
-        }
-        Housed::Refused(r) => {
-            refused(r);
-            0
-        }
+        Housed::Nodes(count) => line(b"PATH ", count as u64),
+        Housed::Refused(r) => refused(r),
     }
 }
 

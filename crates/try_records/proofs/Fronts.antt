@@ -9,9 +9,10 @@
 --     shares-front, unshares-front     the same for a `&ν [T]`: the list comes back as it was
 --     array-shuts-is   `array-shuts`, with the array's relation to its machine value, for a walk that copies
 --                      the array afterwards
--- and for the array of 80 records that every walk of this crate has:
---     Records, records-typed, records-makes     its row, and the laws of it that a copy and a call ask
---     room-within, front-fits                   at most 80 of them have room, and are there
+-- and for the array of 80 records that every walk of this crate is passed:
+--     Records          its row
+--     records-tells, records-typed, records-makes     the laws of it that a parameter, a copy and a call ask
+--     room-within, front-fits     at most 80 of them have room, and are there
 -- Assumes `Given`.
 use mathlib.Core.Path.{_≡_, refl, sym, subst}
 use Prim.Native.Nat.{ℕ, _*_, _^_, _<_, _≤_}
@@ -28,7 +29,7 @@ use ghost.Atoms.{Atoms}
 use types.Kit.{Goal, Soaks, Given, Item, ‵, _⊛_, Seq, Step, step, _$_, move, use1, use2, split, rewrite, fsplit, fjoin, fpick, feqI}
 use types.SemTy.{cells}
 use denote.RattleType.{RattleType}
-use denote.Laws.{Is, Typed, Makes, shows}
+use denote.Laws.{Is, Tells, Typed, Makes, shows}
 use denote.Array.{Array, array-vals, array-tells, array-lawful, array-makes}
 use denote.ArrayMemory.{array-whole}
 use denote.Memory.{cellRaw, rawAll, lone, mem, partAt, partOf}
@@ -43,6 +44,7 @@ use Rattle.records.proofs.Walk.{Elem, ref}
 use Rattle.records.specs.declared.Record.{Record}
 use Rattle.records.proofs.Record as T
 use Rattle.records.proofs.Record.Laws as T′
+use Rattle.records.proofs.Table.{rec}
 use Rattle.records.proofs.Arrays.{lends-array, unlends-array, shares-array, unshares-array}
 
 abbrev pub Behind : (R : RattleType) (ys : List (R .Denot)) (b o n : ℕ) → Fml
@@ -95,6 +97,9 @@ module _ {M : Type 1} {𝓤 : URA M} {H : Heap 𝓤} {A : Atoms 𝓤} {K : Type 
 -- ---- the array of 80 records
 abbrev pub Records : RattleType
 Records = Array T.the-row 80
+
+pub records-tells : Tells Records (Is Records) (array-vals (rec .vals))
+records-tells = array-tells T.the-row (rec .vals) (rec .tells) 80
 
 count-room : (n : ℕ) → n ≤ 80 → n < 2 ^ 64
 count-room n l = omega arith

@@ -1,7 +1,7 @@
--- One outcome fits each promise of this crate. What a question answers and leaves is one (jobs' `Unique`), so
--- the records that it leaves of those lent are one list, and with those behind, which the numbers decide, so
--- is what is written back. Assumes nothing.
---     lending-unique     the numbers that are written back are one list, where what the question leaves is
+-- One outcome fits each promise of this crate. What a question answers and leaves is one (recorded's
+-- `Unique`), so the records that it leaves of those lent are one list, and with those behind, which came in,
+-- so is what is written of them. Assumes nothing.
+--     lending-unique     the numbers that are written are one list, where what the question leaves is
 --     read-lent-unique, plan-lent-unique, house-lent-unique, judge-lent-unique, write-lent-unique
 --                        one theorem for each public function: answers, tables and numbers
 use mathlib.Core.Path.{_≡_, sym, ap, _∙_}
@@ -19,62 +19,57 @@ use Rattle.try_columns.specs.Columns.{toldTo}
 use Rattle.try_records.specs.Lent.{frontOf, backOf, Lending}
 use Rattle.try_records.specs.Lent.{LentReading, LentPlanning, LentHouse, LentList, LentWriting}
 
-pub lending-unique : (A B : (records left : List Record) → Type 0) (count : ℕ) (fields f g : List ℕ)
-    (a : Lending A count fields f) (b : Lending B count fields g) → a .left ≡ b .left → f ≡ g
-lending-unique A B count fields f g a b same =
-    a .told ∙ ap (λ (rs : List Record). toldTo (rs ++ backOf count fields) fields) same ∙ sym (b .told)
-
-module _ (count : ℕ) (fields f g : List ℕ) where
+module _ (count : ℕ) (records : List Record) where
   abbrev front : List Record
-  front = frontOf count fields
+  front = frontOf count records
 
-  pub read-lent-unique : (text t u lanes l m closed cs ds order o p : List ℕ) (r s : Read)
-      → LentReading text t lanes l closed cs count order o fields f r
-      → LentReading text u lanes m closed ds count order p fields g s
-      → (r ≡ s) × (t ≡ u) × (l ≡ m) × (cs ≡ ds) × (o ≡ p) × (f ≡ g)
-  read-lent-unique text t u lanes l m closed cs ds order o p r s a b =
-      let e =
-      read-job-unique text lanes closed front order r s t u l m cs ds (a .left) (b .left) o p (a .asked) (b .asked)
-      in
-      (e .0, e .1, e .2, e .3, e .5, lending-unique _ _ count fields f g a b (e .4))
+  module _ (fields f g : List ℕ) where
+    pub lending-unique : (A B : (records left : List Record) → Type 0) (a : Lending A count records fields f)
+        (b : Lending B count records fields g) → a .left ≡ b .left → f ≡ g
+    lending-unique A B a b same =
+        a .told ∙ ap (λ (rs : List Record). toldTo (rs ++ backOf count records) fields) same ∙ sym (b .told)
 
-  module _ (N M O : Network) (order o p : List ℕ) (dwell : ℕ) where
-    pub plan-lent-unique : (table t u : List ℕ) (r s : Planned)
-        → LentPlanning N M count order o dwell table t fields f r
-        → LentPlanning N O count order p dwell table u fields g s
+    pub read-lent-unique : (text t u lanes l m closed cs ds order o p : List ℕ) (r s : Read)
+        → LentReading text t lanes l closed cs count order o records fields f r
+        → LentReading text u lanes m closed ds count order p records fields g s
+        → (r ≡ s) × (t ≡ u) × (l ≡ m) × (cs ≡ ds) × (o ≡ p) × (f ≡ g)
+    read-lent-unique text t u lanes l m closed cs ds order o p r s a b =
+        let e =
+        read-job-unique text lanes closed front order r s t u l m cs ds (a .left) (b .left) o p (a .asked) (b .asked)
+        in
+        (e .0, e .1, e .2, e .3, e .5, lending-unique _ _ a b (e .4))
+
+    pub plan-lent-unique : (N M O : Network) (order o p : List ℕ) (dwell : ℕ) (table t u : List ℕ)
+        (r s : Planned) → LentPlanning N M count order o dwell table t records fields f r
+        → LentPlanning N O count order p dwell table u records fields g s
         → (r ≡ s) × (M ≡ O) × (o ≡ p) × (t ≡ u) × (f ≡ g)
-    plan-lent-unique table t u r s a b =
+    plan-lent-unique N M O order o p dwell table t u r s a b =
         let e =
         plan-unique N front order dwell table r s M O (a .left) (b .left) o p t u (a .asked) (b .asked)
         in
-        (e .0, e .1, e .3, e .4, lending-unique _ _ count fields f g a b (e .2))
+        (e .0, e .1, e .3, e .4, lending-unique _ _ a b (e .2))
 
+  module _ (N M O : Network) (order o p : List ℕ) (dwell : ℕ) where
     pub house-lent-unique : (c : ℕ) (path t u : List ℕ) (r s : Housed)
-        → LentHouse N M count order o dwell c path t fields f r
-        → LentHouse N O count order p dwell c path u fields g s
-        → (r ≡ s) × (M ≡ O) × (o ≡ p) × (t ≡ u) × (f ≡ g)
+        → LentHouse N M count order o dwell c path t records r
+        → LentHouse N O count order p dwell c path u records s
+        → (r ≡ s) × (M ≡ O) × (o ≡ p) × (t ≡ u)
     house-lent-unique c path t u r s a b =
-        let e =
-        house-unique N front order dwell c M O (a .left) (b .left) o p path t u r s (a .asked) (b .asked)
-        in
-        (e .0 .0, e .1 .0, e .1 .2, e .0 .1, lending-unique _ _ count fields f g a b (e .1 .1))
+        let e = house-unique N front order dwell c M O front front o p path t u r s a b in
+        (e .0 .0, e .1 .0, e .1 .2, e .0 .1)
 
     pub judge-lent-unique : (c : ℕ) (list t u : List ℕ) (r s : Checked)
-        → LentList N M count order o dwell c list t fields f r
-        → LentList N O count order p dwell c list u fields g s
-        → (r ≡ s) × (M ≡ O) × (o ≡ p) × (t ≡ u) × (f ≡ g)
+        → LentList N M count order o dwell c list t records r
+        → LentList N O count order p dwell c list u records s
+        → (r ≡ s) × (M ≡ O) × (o ≡ p) × (t ≡ u)
     judge-lent-unique c list t u r s a b =
-        let e =
-        judge-unique N front order dwell c M O (a .left) (b .left) o p list t u r s (a .asked) (b .asked)
-        in
-        (e .0 .0, e .1 .0, e .1 .2, e .0 .1, lending-unique _ _ count fields f g a b (e .1 .1))
+        let e = judge-unique N front order dwell c M O front front o p list t u r s a b in
+        (e .0 .0, e .1 .0, e .1 .2, e .0 .1)
 
     pub write-lent-unique : (out t u : List ℕ) (r s : Written)
-        → LentWriting N M count order o dwell out t fields f r
-        → LentWriting N O count order p dwell out u fields g s
-        → (r ≡ s) × (M ≡ O) × (o ≡ p) × (t ≡ u) × (f ≡ g)
+        → LentWriting N M count order o dwell out t records r
+        → LentWriting N O count order p dwell out u records s
+        → (r ≡ s) × (M ≡ O) × (o ≡ p) × (t ≡ u)
     write-lent-unique out t u r s a b =
-        let e =
-        write-unique N front order dwell M O (a .left) (b .left) o p out t u r s (a .asked) (b .asked)
-        in
-        (e .0 .0, e .1 .0, e .1 .2, e .0 .1, lending-unique _ _ count fields f g a b (e .1 .1))
+        let e = write-unique N front order dwell M O front front o p out t u r s a b in
+        (e .0 .0, e .1 .0, e .1 .2, e .0 .1)

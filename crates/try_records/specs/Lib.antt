@@ -1,2 +1,2 @@
--- What the questions promise that are asked with records made from numbers.
+-- What the questions promise that are asked with the first of 80 records.
 pub mod Lent

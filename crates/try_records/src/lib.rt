@@ -1,14 +1,15 @@
-// The questions that take records, for programs that have numbers: each makes an array of 80 records, lends
-// its first `count` to the question, and writes the whole array back as numbers. So a program can lend 63, 64
-// or 70 records, and see what is left in each of them and in those behind, with no proof by hand of its own.
+// The questions that take records, for programs that have 80 of them in an array: each lends the first
+// `count` to the question. So a program can lend 63, 64 or 70 records, and see what is left in each of them
+// and in those behind, with no proof by hand of its own.
 //
-// The records' numbers are `fields`, in four columns of 80: the starts, the goals, the distances, the ticks
-// (crate `try_columns`). Of a count above 80 the array is what there is.
+// A question that may change the records writes the whole array to `fields` afterwards, in four columns of
+// 80: the starts, the goals, the distances, the ticks (crate `try_columns`, which makes the array from such
+// columns). One that only reads them leaves them as they came. Of a count above 80 the array is what there
+// is.
 //
-// Promised is, for every input, that the question's own promise in `jobs` holds of the records made and lent,
-// and that `fields` ends as what the question leaves of them and those behind, written back
-// (specs/Lent.antt). That fixes the answer, every lent table and `fields` (proofs/Unique.antt). Nothing is
-// decided here.
+// Promised is, for every input, that the question's own promise in `jobs` holds of the records lent, and that
+// `fields` ends as what the question leaves of them and those behind, written to it (specs/Lent.antt). That
+// fixes the answer, every lent table and `fields` (proofs/Unique.antt). Nothing is decided here.
 ghost use denote.Ref.{now};
 ghost use Rattle.hall.specs.Floor.{networkOf};
 ghost use Rattle.try_records.specs.Lent.{LentReading, LentPlanning, LentHouse, LentList, LentWriting};
@@ -22,7 +23,8 @@ use jobs::write_job;
 use path::Housed;
 use planner::Planned;
 use reader::Read;
-use try_columns::made;
+use records::Record;
+use try_columns::LENDABLE;
 use try_columns::told;
 use try_columns::within;
 use writer::Written;
@@ -34,6 +36,7 @@ pub fn read_lent(
     closed: &mut [u16],
     count: usize,
     order: &mut [u16],
+    mut records: [Record; LENDABLE],
     fields: &mut [u32],
 ) -> Read
     ensures { λ r. ⌜ LentReading
@@ -42,10 +45,10 @@ pub fn read_lent(
         (now (closed .entry)) (now (closed .exit))
         count
         (now (order .entry)) (now (order .exit))
+        records
         (now (fields .entry)) (now (fields .exit))
         r ⌝ }
 {
-    let mut records = made(fields);
     let n = within(count);
     let answer = read_job(text, lanes, closed, &mut records[..n], order);
     told(records, fields);
@@ -61,6 +64,7 @@ pub fn plan_lent(
     order: &[u16],
     dwell: usize,
     table: &mut [u16],
+    mut records: [Record; LENDABLE],
     fields: &mut [u32],
 ) -> Planned
     ensures { λ r. ⌜ LentPlanning
@@ -70,10 +74,10 @@ pub fn plan_lent(
         (now (order .entry)) (now (order .exit))
         dwell
         (now (table .entry)) (now (table .exit))
+        records
         (now (fields .entry)) (now (fields .exit))
         r ⌝ }
 {
-    let mut records = made(fields);
     let n = within(count);
     let answer = plan(nodes, lanes, closed, &mut records[..n], order, dwell, table);
     told(records, fields);
@@ -90,7 +94,7 @@ pub fn house_lent(
     dwell: usize,
     carrier: Carrier,
     path: &mut [u16],
-    fields: &mut [u32],
+    records: [Record; LENDABLE],
 ) -> Housed
     ensures { λ r. ⌜ LentHouse
         (networkOf nodes (now (lanes .entry)) (now (closed .entry)))
@@ -100,12 +104,11 @@ pub fn house_lent(
         dwell
         (carrier .0)
         (now (path .entry)) (now (path .exit))
-        (now (fields .entry)) (now (fields .exit))
+        records
         r ⌝ }
 {
-    let records = made(fields);
     let n = within(count);
-    let answer = house(
+    house(
         nodes,
         lanes,
         closed,
@@ -114,9 +117,7 @@ pub fn house_lent(
         dwell,
         carrier,
         path,
-    );
-    told(records, fields);
-    answer
+    )
 }
 
 // `jobs::judge` with the first `count` records lent.
@@ -129,7 +130,7 @@ pub fn judge_lent(
     dwell: usize,
     carrier: Carrier,
     list: &[u16],
-    fields: &mut [u32],
+    records: [Record; LENDABLE],
 ) -> Checked
     ensures { λ r. ⌜ LentList
         (networkOf nodes (now (lanes .entry)) (now (closed .entry)))
@@ -139,12 +140,11 @@ pub fn judge_lent(
         dwell
         (carrier .0)
         (now (list .entry)) (now (list .exit))
-        (now (fields .entry)) (now (fields .exit))
+        records
         r ⌝ }
 {
-    let records = made(fields);
     let n = within(count);
-    let answer = judge(
+    judge(
         nodes,
         lanes,
         closed,
@@ -153,9 +153,7 @@ pub fn judge_lent(
         dwell,
         carrier,
         list,
-    );
-    told(records, fields);
-    answer
+    )
 }
 
 // `jobs::write_job` with the first `count` records lent.
@@ -167,7 +165,7 @@ pub fn write_lent(
     order: &[u16],
     dwell: usize,
     out: &mut [u8],
-    fields: &mut [u32],
+    records: [Record; LENDABLE],
 ) -> Written
     ensures { λ r. ⌜ LentWriting
         (networkOf nodes (now (lanes .entry)) (now (closed .entry)))
@@ -176,12 +174,9 @@ pub fn write_lent(
         (now (order .entry)) (now (order .exit))
         dwell
         (now (out .entry)) (now (out .exit))
-        (now (fields .entry)) (now (fields .exit))
+        records
         r ⌝ }
 {
-    let records = made(fields);
     let n = within(count);
-    let answer = write_job(nodes, lanes, closed, &records[..n], order, dwell, out);
-    told(records, fields);
-    answer
+    write_job(nodes, lanes, closed, &records[..n], order, dwell, out)
 }

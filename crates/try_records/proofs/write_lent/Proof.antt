@@ -1,10 +1,10 @@
--- `try_records::write_lent` meets its contract: a walk of its MIR, by hand. All that it knows of the four functions
--- that it calls is that each meets its contract. Each reference stays whole between the calls, beside its
--- token, and the array of records is a local like any other. For a call a reference is lent for a lifetime of
--- the call's own and comes back; for `write_job` the array is opened, its front is lent, and it is shut again
--- (`Fronts.antt`). What the calls say of records, answer and numbers is carried to the exit, where it is the
--- promise (`Lent.antt`'s `lends-kept`). Assumes nothing.
-use mathlib.Core.Path.{_≡_, refl, ap}
+-- `try_records::write_lent` meets its contract: a walk of its MIR, by hand. All that it knows of the two
+-- functions that it calls is that each meets its contract. Each reference stays whole between the calls,
+-- beside its token, and the array of records is a local like any other. For a call a `&` is handed on, and a
+-- `&mut` is lent for a lifetime of the call's own and comes back; for `write_job` the array is opened, its
+-- front is lent, and it is shut again (`Fronts.antt`). What the call says of the front is the promise.
+-- Assumes nothing.
+use mathlib.Core.Path.{_≡_, refl, ap, subst}
 use Prim.Native.Nat.{ℕ, _<_, _^_, min}
 use mathlib.Core.Option.{some}
 use mathlib.Core.List.{List, [], _∷_}
@@ -23,13 +23,13 @@ use contract.Monad.{Fun}
 use contract.Running.{givenOf, tables, tablesOf}
 use types.Kit.{Given, Item, ‵, _⊛_, ⋆, _$_, _∵_, !, qed, by, move, keep, drop, split, join, rewrite, fsplit, fjoin, suffices, frame, done}
 use types.Part.{whole, sub, look-in, agg}
-use types.Run.{look, init, store, stop, hop, fld, from, load, addr, of-opd, and-then, no-more, assigns, land, returns, enter, alloc1, alloc0, params1, pass1, pass0}
+use types.Run.{look, init, stop, hop, fld, from, load, addr, of-opd, and-then, no-more, assigns, land, returns, enter, alloc1, alloc0, params1, pass1, pass0}
 use sound.WpLaws.{WpFn-mono, fmOf}
 use denote.RattleType.{owns}
 use denote.Laws.{Is}
 use denote.Array.{array-vals}
-use denote.Plain.{uint-lawful, uint-vals, uint-tells, nothing-lawful}
-use denote.Builtin.{u8, u16, u32, usize}
+use denote.Plain.{uint-lawful, uint-vals, uint-tells}
+use denote.Builtin.{u8, u16, usize}
 use denote.Ref.{RefT}
 use denote.Slice.{sliceVal, ShrSlice, MutSlice, Room, slice-vals, shr-slice-tells, mut-slice-tells}
 use denote.Signature.{plain, shrSliceOf}
@@ -41,24 +41,20 @@ use denote.Triple.Table.{entered, cited}
 use denote.Triple.Walked.{says, Stays, stay-dropped, stay-slice, walkOf, goes-dropped, goes-slice, Walks, ends-at, walked, walk-meets}
 use denote.Exit.{yes}
 use Rattle.records.proofs.Walk.{ref, frees-all, puts}
-use Rattle.records.proofs.Calls.{lends-mut, unlends-mut, shares-mut, unshares-mut, hands-shr, adds, parts, passes, calls-spec}
-use Rattle.records.proofs.Arrays.{array-opens}
+use Rattle.records.proofs.Calls.{lends-mut, unlends-mut, hands-shr, adds, parts, passes, calls-spec}
+use Rattle.records.proofs.Arrays.{array-opens, array-shuts}
 use Rattle.records.proofs.Table.{rec}
+use Rattle.records.specs.declared.Record.{Record}
 use Rattle.hall.specs.Floor.{networkOf}
 use Rattle.recorded.specs.Writing.{RecordWriting}
-use Rattle.try_columns.specs.Columns.{madeOf, toldTo}
 use Rattle.try_records.specs.Lent.{LentWriting}
-use Rattle.try_records.proofs.Lent.{within-lendable, lends-kept}
-use Rattle.try_records.proofs.Fronts.{shares-front, unshares-front, array-shuts-is, Records, records-typed, records-makes, room-within, front-fits}
+use Rattle.try_records.proofs.Lent.{within-lendable}
+use Rattle.try_records.proofs.Fronts.{shares-front, unshares-front, Records, records-typed, records-tells, room-within, front-fits}
 use denote.Enum.Laws as EL
 use Rattle.writer.specs.declared.Written.{Written}
 use Rattle.writer.proofs.Written as E₀
 use Rattle.writer.proofs.Written.Laws as E₀′
 use Rattle.records.proofs.Record as T
-use Rattle.try_columns.proofs.made as made
-use Rattle.try_columns.proofs.made.Symbol as made-def
-use Rattle.try_columns.proofs.made.Symbol.{name as #made}
-use Rattle.try_columns.proofs.made.Met as made-thm
 use Rattle.try_columns.proofs.within as within
 use Rattle.try_columns.proofs.within.Symbol as within-def
 use Rattle.try_columns.proofs.within.Symbol.{name as #within}
@@ -67,25 +63,21 @@ use Rattle.jobs.proofs.write_job as write-job
 use Rattle.jobs.proofs.write_job.Symbol as write-job-def
 use Rattle.jobs.proofs.write_job.Symbol.{name as #write-job}
 use Rattle.jobs.proofs.write_job.Met as write-job-thm
-use Rattle.try_columns.proofs.told as told
-use Rattle.try_columns.proofs.told.Symbol as told-def
-use Rattle.try_columns.proofs.told.Symbol.{name as #told}
-use Rattle.try_columns.proofs.told.Met as told-thm
 use Rattle.try_records.proofs.write_lent.Key.{name as #try-records·write-lent}
 use Rattle.try_records.proofs.write_lent as f
 use Rattle.try_records.proofs.write_lent.Statement as stated
 use Rattle.try_records.proofs.write_lent.Code as code
 
 abbrev stayed : Stays (f.ended .signature .params) (f.ended .kept)
-stayed = (stay-dropped (plain (λ _. usize)) yes, (stay-dropped (shrSliceOf (0 ∷ []) tt (plain (λ _. u16))) yes, (stay-dropped (shrSliceOf (1 ∷ []) tt (plain (λ _. u16))) yes, (stay-dropped (plain (λ _. usize)) yes, (stay-dropped (shrSliceOf (2 ∷ []) tt (plain (λ _. u16))) yes, (stay-dropped (plain (λ _. usize)) yes, (stay-slice (3 ∷ []) tt (plain (λ _. u8)), (stay-slice (4 ∷ []) tt (plain (λ _. u32)), tt))))))))
+stayed = (stay-dropped (plain (λ _. usize)) yes, (stay-dropped (shrSliceOf (0 ∷ []) tt (plain (λ _. u16))) yes, (stay-dropped (shrSliceOf (1 ∷ []) tt (plain (λ _. u16))) yes, (stay-dropped (plain (λ _. usize)) yes, (stay-dropped (shrSliceOf (2 ∷ []) tt (plain (λ _. u16))) yes, (stay-dropped (plain (λ _. usize)) yes, (stay-slice (3 ∷ []) tt (plain (λ _. u8)), (stay-dropped (plain (λ _. Records)) yes, tt))))))))
 
-module _ {M : Type 1} (𝓤 : URA M) (H : Heap 𝓤) (A : Atoms 𝓤) (W : Given 𝓤 H A) (mem : Memory → SProp 𝓤) (run : Routine → Fun 𝓤) (κ₀ κ₁ κ₂ κ₃ κ₄ : Lft) (q₀ q₁ q₂ q₃ q₄ : Share) (b₀ o₀ b₁ o₁ b₂ o₂ b₃ o₃ b₄ o₄ : ℕ) (γ₀ γ₁ γ₂ γ₃ γ₄ : GName)
-    (nodes : ℕ) (g-nodes : nodes < 2 ^ bits w64) (count : ℕ) (g-count : count < 2 ^ bits w64) (dwell : ℕ) (g-dwell : dwell < 2 ^ bits w64) (lanes : List ℕ) (closed : List ℕ) (order : List ℕ) (out : List ℕ) (fields : List ℕ) (g-lanes : Room u16 (length lanes)) (g-closed : Room u16 (length closed)) (g-order : Room u16 (length order)) (g-out : Room u8 (length out)) (g-fields : Room u32 (length fields)) where
+module _ {M : Type 1} (𝓤 : URA M) (H : Heap 𝓤) (A : Atoms 𝓤) (W : Given 𝓤 H A) (mem : Memory → SProp 𝓤) (run : Routine → Fun 𝓤) (κ₀ κ₁ κ₂ κ₃ : Lft) (q₀ q₁ q₂ q₃ : Share) (b₀ o₀ b₁ o₁ b₂ o₂ b₃ o₃ : ℕ) (γ₀ γ₁ γ₂ γ₃ : GName)
+    (nodes : ℕ) (g-nodes : nodes < 2 ^ bits w64) (count : ℕ) (g-count : count < 2 ^ bits w64) (dwell : ℕ) (g-dwell : dwell < 2 ^ bits w64) (records : List Record) (v-records : Val) (g-records : Is Records records (v-records ∷ [])) (lanes closed order out : List ℕ) (g-lanes : Room u16 (length lanes)) (g-closed : Room u16 (length closed)) (g-order : Room u16 (length order)) (g-out : Room u8 (length out)) where
   abbrev Arg : Type 0
-  Arg = ℕ × (RefT (List ℕ) × (RefT (List ℕ) × (ℕ × (RefT (List ℕ) × (ℕ × (RefT (List ℕ) × (RefT (List ℕ) × Unit {0})))))))
+  Arg = ℕ × (RefT (List ℕ) × (RefT (List ℕ) × (ℕ × (RefT (List ℕ) × (ℕ × (RefT (List ℕ) × (List Record × Unit {0})))))))
 
   abbrev a : Arg
-  a = (nodes, (ref b₀ o₀ γ₀ lanes, (ref b₁ o₁ γ₁ closed, (count, (ref b₂ o₂ γ₂ order, (dwell, (ref b₃ o₃ γ₃ out, (ref b₄ o₄ γ₄ fields, tt))))))))
+  a = (nodes, (ref b₀ o₀ γ₀ lanes, (ref b₁ o₁ γ₁ closed, (count, (ref b₂ o₂ γ₂ order, (dwell, (ref b₃ o₃ γ₃ out, (records, tt))))))))
 
   -- the machine values
   abbrev mv₀ : Val
@@ -100,101 +92,72 @@ module _ {M : Type 1} (𝓤 : URA M) (H : Heap 𝓤) (A : Atoms 𝓤) (W : Given
   abbrev mv₃ : Val
   mv₃ = sliceVal (b₃, o₃) (length out)
 
-  abbrev mv₄ : Val
-  mv₄ = sliceVal (b₄, o₄) (length fields)
-
-  abbrev at : Vals f.signature (κ₀, (κ₁, (κ₂, (κ₃, (κ₄, tt)))))
-  at = (vint w64 nodes ∷ [], (mv₀ ∷ [], (mv₁ ∷ [], (vint w64 count ∷ [], (mv₂ ∷ [], (vint w64 dwell ∷ [], (mv₃ ∷ [], (mv₄ ∷ [], tt))))))))
+  abbrev at : Vals f.signature (κ₀, (κ₁, (κ₂, (κ₃, tt))))
+  at = (vint w64 nodes ∷ [], (mv₀ ∷ [], (mv₁ ∷ [], (vint w64 count ∷ [], (mv₂ ∷ [], (vint w64 dwell ∷ [], (mv₃ ∷ [], (v-records ∷ [], tt))))))))
 
   abbrev Post : Val → SProp 𝓤
-  Post = walkOf 𝓤 H A f.ended stayed (f.clauses 𝓤 H A mem run) .post (((κ₀, (κ₁, (κ₂, (κ₃, (κ₄, tt))))), (q₀, (q₁, (q₂, (q₃, (q₄, tt))))), tt, a, at), tt)
+  Post = walkOf 𝓤 H A f.ended stayed (f.clauses 𝓤 H A mem run) .post (((κ₀, (κ₁, (κ₂, (κ₃, tt)))), (q₀, (q₁, (q₂, (q₃, tt)))), tt, a, at), tt)
 
   -- the references, each whole, beside its token
-  abbrev Refs : List ℕ → List ℕ → List (Item 𝓤)
-  Refs z-out z-fields = ‵ (ShrSlice erased κ₀ u16 .own (ref b₀ o₀ γ₀ lanes) (mv₀ ∷ [])) ∷ ‵ (flft κ₀ q₀) ∷
+  abbrev Refs : List ℕ → List (Item 𝓤)
+  Refs z-out = ‵ (ShrSlice erased κ₀ u16 .own (ref b₀ o₀ γ₀ lanes) (mv₀ ∷ [])) ∷ ‵ (flft κ₀ q₀) ∷
       ‵ (ShrSlice erased κ₁ u16 .own (ref b₁ o₁ γ₁ closed) (mv₁ ∷ [])) ∷ ‵ (flft κ₁ q₁) ∷
       ‵ (ShrSlice erased κ₂ u16 .own (ref b₂ o₂ γ₂ order) (mv₂ ∷ [])) ∷ ‵ (flft κ₂ q₂) ∷
-      ‵ (MutSlice erased κ₃ u8 .own (ref b₃ o₃ γ₃ z-out) (mv₃ ∷ [])) ∷ ‵ (flft κ₃ q₃) ∷
-      ‵ (MutSlice erased κ₄ u32 .own (ref b₄ o₄ γ₄ z-fields) (mv₄ ∷ [])) ∷ ‵ (flft κ₄ q₄) ∷ []
+      ‵ (MutSlice erased κ₃ u8 .own (ref b₃ o₃ γ₃ z-out) (mv₃ ∷ [])) ∷ ‵ (flft κ₃ q₃) ∷ []
 
-  exits : (r : Written) (v : Val) (z-out : List ℕ) (z-fields : List ℕ) → Is E₀.the-row r (v ∷ []) → LentWriting (networkOf nodes lanes closed) (networkOf nodes lanes closed) count order order dwell out z-out fields z-fields r → length z-out ≡ length out → length z-fields ≡ length fields → ent 𝓤 (⋆ 𝓤 H A (Refs z-out z-fields)) (Post v)
-  exits r v z-out z-fields is e long-out long-fields =
-      qed W (Refs z-out z-fields) ∵
-      suffices ! _ (ends-at 𝓤 H A f.ended stayed (f.clauses 𝓤 H A mem run) W (((κ₀, (κ₁, (κ₂, (κ₃, (κ₄, tt))))), (q₀, (q₁, (q₂, (q₃, (q₄, tt))))), tt, a, at), tt) v r (tt, (tt, (tt, (tt, (tt, (tt, (z-out, (z-fields, tt)))))))) (tt, (tt, (tt, (tt, (tt, (tt, (long-out, (long-fields, tt))))))))) $ says ! e $
-      keep ! (9 ∷ 7 ∷ 5 ∷ 3 ∷ 1 ∷ 8 ∷ 6 ∷ []) $ nothing ! $ move ! (1 ∷ 0 ∷ []) $ join ! $ move ! (1 ∷ 0 ∷ []) $ join ! $ move ! (1 ∷ 0 ∷ []) $ join ! $ move ! (1 ∷ 0 ∷ []) $ join ! $ move ! (1 ∷ 0 ∷ []) $ join ! $ frame ! $
-      nothing ! $ adds ! $ adds ! $ nothing ! $ fjoin ! $ nothing ! $ fjoin ! $ nothing ! $ fjoin ! $ nothing ! $ fjoin ! $ nothing ! $ fjoin ! $ nothing ! $ fjoin ! $ frame ! $ owned ! E₀.the-row (Is E₀.the-row) (EL.makes E₀.the-type E₀′.the-plain 𝓤 H A) r (v ∷ []) is $ done !
+  exits : (r : Written) (v : Val) (z-out : List ℕ) → Is E₀.the-row r (v ∷ []) → LentWriting (networkOf nodes lanes closed) (networkOf nodes lanes closed) count order order dwell out z-out records r → length z-out ≡ length out → ent 𝓤 (⋆ 𝓤 H A (Refs z-out)) (Post v)
+  exits r v z-out is e long-out =
+      qed W (Refs z-out) ∵
+      suffices ! _ (ends-at 𝓤 H A f.ended stayed (f.clauses 𝓤 H A mem run) W (((κ₀, (κ₁, (κ₂, (κ₃, tt)))), (q₀, (q₁, (q₂, (q₃, tt)))), tt, a, at), tt) v r (tt, (tt, (tt, (tt, (tt, (tt, (z-out, (tt, tt)))))))) (tt, (tt, (tt, (tt, (tt, (tt, (long-out, (tt, tt))))))))) $ says ! e $
+      keep ! (7 ∷ 5 ∷ 3 ∷ 1 ∷ 6 ∷ []) $ nothing ! $ move ! (1 ∷ 0 ∷ []) $ join ! $ move ! (1 ∷ 0 ∷ []) $ join ! $ move ! (1 ∷ 0 ∷ []) $ join ! $ move ! (1 ∷ 0 ∷ []) $ join ! $ frame ! $
+      nothing ! $ nothing ! $ fjoin ! $ adds ! $ nothing ! $ fjoin ! $ nothing ! $ fjoin ! $ nothing ! $ fjoin ! $ nothing ! $ fjoin ! $ nothing ! $ fjoin ! $ nothing ! $ fjoin ! $ frame ! $ owned ! E₀.the-row (Is E₀.the-row) (EL.makes E₀.the-type E₀′.the-plain 𝓤 H A) r (v ∷ []) is $ done !
 
-  module _ (𝓣 : Tables 𝓤 H) (known-made : Triple 𝓤 (𝓣 .C #made) (tripleOf 𝓤 H A made.signature (made.spec 𝓤 H A mem run))) (known-within : Triple 𝓤 (𝓣 .C #within) (tripleOf 𝓤 H A within.signature (within.spec 𝓤 H A mem run))) (known-write-job : Triple 𝓤 (𝓣 .C #write-job) (tripleOf 𝓤 H A write-job.signature (write-job.spec 𝓤 H A mem run))) (known-told : Triple 𝓤 (𝓣 .C #told) (tripleOf 𝓤 H A told.signature (told.spec 𝓤 H A mem run))) where
-    walk : ent 𝓤 (onEntry 𝓤 H A f.signature (κ₀, (κ₁, (κ₂, (κ₃, (κ₄, tt))))) (q₀, (q₁, (q₂, (q₃, (q₄, tt))))) a at) (WpFn 𝓤 H (𝓣 .C) (𝓣 .Λ) code.function (vint w64 nodes ∷ mv₀ ∷ mv₁ ∷ vint w64 count ∷ mv₂ ∷ vint w64 dwell ∷ mv₃ ∷ mv₄ ∷ []) Post)
+  module _ (𝓣 : Tables 𝓤 H) (known-within : Triple 𝓤 (𝓣 .C #within) (tripleOf 𝓤 H A within.signature (within.spec 𝓤 H A mem run))) (known-write-job : Triple 𝓤 (𝓣 .C #write-job) (tripleOf 𝓤 H A write-job.signature (write-job.spec 𝓤 H A mem run))) where
+    walk : ent 𝓤 (onEntry 𝓤 H A f.signature (κ₀, (κ₁, (κ₂, (κ₃, tt)))) (q₀, (q₁, (q₂, (q₃, tt)))) a at) (WpFn 𝓤 H (𝓣 .C) (𝓣 .Λ) code.function (vint w64 nodes ∷ mv₀ ∷ mv₁ ∷ vint w64 count ∷ mv₂ ∷ vint w64 dwell ∷ mv₃ ∷ v-records ∷ []) Post)
     walk =
         let fm = fmOf 𝓤 H (W .laws) 𝓣 in
-        qed W ((‵ (flft κ₀ q₀) ⊛ (‵ (flft κ₁ q₁) ⊛ (‵ (flft κ₂ q₂) ⊛ (‵ (flft κ₃ q₃) ⊛ (‵ (flft κ₄ q₄) ⊛ ‵ ftrue))))) ∷ ‵ (owns (usize ∷ ShrSlice (named 0) κ₀ u16 ∷ ShrSlice (named 1) κ₁ u16 ∷ usize ∷ ShrSlice (named 2) κ₂ u16 ∷ usize ∷ MutSlice (named 3) κ₃ u8 ∷ MutSlice (named 4) κ₄ u32 ∷ []) a at) ∷ []) ∵
-        split ! $ move ! (1 ∷ []) $ split ! $ move ! (1 ∷ []) $ split ! $ move ! (1 ∷ []) $ split ! $ move ! (1 ∷ []) $ split ! $ move ! (6 ∷ []) $ parts ! $ parts ! $ parts ! $ parts ! $ parts ! $ parts ! $ parts ! $ parts ! $ keep ! (7 ∷ 14 ∷ 6 ∷ 13 ∷ 4 ∷ 12 ∷ 2 ∷ 11 ∷ 1 ∷ 9 ∷ []) $
-        enter ! (𝓣 .C) (𝓣 .Λ) code.function (vint w64 nodes ∷ mv₀ ∷ mv₁ ∷ vint w64 count ∷ mv₂ ∷ vint w64 dwell ∷ mv₃ ∷ mv₄ ∷ []) _ $
-        alloc1 ! (λ l₀. alloc1 ! (λ l₁. alloc1 ! (λ l₂. alloc1 ! (λ l₃. alloc1 ! (λ l₄. alloc1 ! (λ l₅. alloc1 ! (λ l₆. alloc1 ! (λ l₇. alloc1 ! (λ l₈. alloc1 ! (λ l₉. alloc1 ! (λ l₁₀. alloc1 ! (λ l₁₁. alloc1 ! (λ l₁₂. alloc1 ! (λ l₁₃. alloc1 ! (λ l₁₄. alloc1 ! (λ l₁₅. alloc1 ! (λ l₁₆. alloc1 ! (λ l₁₇. alloc1 ! (λ l₁₈. alloc1 ! (λ l₁₉. alloc1 ! (λ l₂₀. alloc1 ! (λ l₂₁. alloc0 ! $ params1 ! $
-        pass1 ! (init ! 40 refl (tt, record { fits = g-nodes })) $ pass1 ! (init ! 38 refl (tt, (tt, (record { fits = g-lanes .0 }, tt)))) $ pass1 ! (init ! 36 refl (tt, (tt, (record { fits = g-closed .0 }, tt)))) $ pass1 ! (init ! 34 refl (tt, record { fits = g-count })) $ pass1 ! (init ! 32 refl (tt, (tt, (record { fits = g-order .0 }, tt)))) $ pass1 ! (init ! 30 refl (tt, record { fits = g-dwell })) $ pass1 ! (init ! 28 refl (tt, (tt, (record { fits = g-out .0 }, tt)))) $ pass1 ! (init ! 26 refl (tt, (tt, (record { fits = g-fields .0 }, tt)))) $ pass0 ! $
-        move ! (44 ∷ 45 ∷ 46 ∷ 47 ∷ 48 ∷ 49 ∷ 50 ∷ 51 ∷ 52 ∷ 53 ∷ []) $
-        assigns ! (addr ! (from ! (fld ! refl (hop ! (look-in ! 36 (sub ! 0 refl (whole !))) (stop !))))) (from ! (stop !)) (init ! 26 refl (tt, tt)) $
-        assigns ! (agg ! (and-then ! (load ! (from ! (stop !)) (look ! 26 refl)) (and-then ! (load ! (from ! (fld ! refl (stop !))) (look-in ! 36 (sub ! 1 refl (whole !)))) (no-more !)))) (from ! (stop !)) (init ! 24 refl (tt, (tt, (record { fits = g-fields .0 }, tt)))) $
-        -- `made`
-        move ! (8 ∷ 9 ∷ []) $ shares-mut ! tt u32 fields b₄ o₄ (λ ν₁₀ δ₁₀.
-        nothing ! $ adds ! $ move ! (1 ∷ []) $ nothing ! $ adds ! $
-        calls-spec ! fm made.ended (made.clauses 𝓤 H A mem run) known-made (ν₁₀ ∷ [], tt) (fullShare, tt) tt (ref b₄ o₄ δ₁₀ fields, tt) (mv₄ ∷ [], tt) tt (id⊢ 𝓤 (emp 𝓤))
-        (λ r ws. r ≡ madeOf fields) (λ r ws. id⊢ 𝓤 _) (and-then ! (load ! (from ! (stop !)) (look ! 24 refl)) (no-more !)) (λ v₁ r₁ ws₁ e₁ is₁.
-        parts ! $ drop ! $ move ! (1 ∷ []) $ drop ! $
-        unshares-mut ! tt u32 fields b₄ o₄ $
-        move ! (2 ∷ 3 ∷ 4 ∷ 5 ∷ 6 ∷ 7 ∷ 8 ∷ 9 ∷ 0 ∷ 1 ∷ []) $
-        land ! (from ! (stop !)) (init ! 28 refl (records-typed 𝓤 H A W r₁ _ is₁ .0)) $
-        assigns ! (of-opd ! (load ! (from ! (stop !)) (look ! 28 refl))) (from ! (stop !)) (init ! 34 refl (records-typed 𝓤 H A W r₁ _ is₁ .0)) $
+        qed W ((‵ (flft κ₀ q₀) ⊛ (‵ (flft κ₁ q₁) ⊛ (‵ (flft κ₂ q₂) ⊛ (‵ (flft κ₃ q₃) ⊛ ‵ ftrue)))) ∷ ‵ (owns (usize ∷ ShrSlice (named 0) κ₀ u16 ∷ ShrSlice (named 1) κ₁ u16 ∷ usize ∷ ShrSlice (named 2) κ₂ u16 ∷ usize ∷ MutSlice (named 3) κ₃ u8 ∷ Records ∷ []) a at) ∷ []) ∵
+        split ! $ move ! (1 ∷ []) $ split ! $ move ! (1 ∷ []) $ split ! $ move ! (1 ∷ []) $ split ! $ move ! (5 ∷ []) $ parts ! $ parts ! $ parts ! $ parts ! $ parts ! $ parts ! $ parts ! $ parts ! $ keep ! (7 ∷ 13 ∷ 6 ∷ 12 ∷ 4 ∷ 11 ∷ 2 ∷ 9 ∷ []) $
+        enter ! (𝓣 .C) (𝓣 .Λ) code.function (vint w64 nodes ∷ mv₀ ∷ mv₁ ∷ vint w64 count ∷ mv₂ ∷ vint w64 dwell ∷ mv₃ ∷ v-records ∷ []) _ $
+        alloc1 ! (λ l₀. alloc1 ! (λ l₁. alloc1 ! (λ l₂. alloc1 ! (λ l₃. alloc1 ! (λ l₄. alloc1 ! (λ l₅. alloc1 ! (λ l₆. alloc1 ! (λ l₇. alloc1 ! (λ l₈. alloc1 ! (λ l₉. alloc1 ! (λ l₁₀. alloc1 ! (λ l₁₁. alloc1 ! (λ l₁₂. alloc1 ! (λ l₁₃. alloc1 ! (λ l₁₄. alloc0 ! $ params1 ! $
+        pass1 ! (init ! 26 refl (tt, record { fits = g-nodes })) $ pass1 ! (init ! 24 refl (tt, (tt, (record { fits = g-lanes .0 }, tt)))) $ pass1 ! (init ! 22 refl (tt, (tt, (record { fits = g-closed .0 }, tt)))) $ pass1 ! (init ! 20 refl (tt, record { fits = g-count })) $ pass1 ! (init ! 18 refl (tt, (tt, (record { fits = g-order .0 }, tt)))) $ pass1 ! (init ! 16 refl (tt, record { fits = g-dwell })) $ pass1 ! (init ! 14 refl (tt, (tt, (record { fits = g-out .0 }, tt)))) $ pass1 ! (init ! 12 refl (records-typed 𝓤 H A W records _ g-records .0)) $ pass0 ! $
+        move ! (30 ∷ 31 ∷ 32 ∷ 33 ∷ 34 ∷ 35 ∷ 36 ∷ 37 ∷ []) $
+        assigns ! (of-opd ! (load ! (from ! (stop !)) (look ! 20 refl))) (from ! (stop !)) (init ! 18 refl (records-typed 𝓤 H A W records _ g-records .0)) $
         -- `within`
-        nothing ! $ passes ! w64 count (g-count) $ nothing ! $
+        nothing ! $ passes ! w64 count g-count $ nothing ! $
         calls-spec ! fm within.ended (within.clauses 𝓤 H A mem run) known-within tt tt tt (count, tt) (vint w64 count ∷ [], tt) tt (id⊢ 𝓤 (emp 𝓤))
-        (λ r ws. r ≡ min count 80) (λ r ws. id⊢ 𝓤 _) (and-then ! (load ! (from ! (stop !)) (look ! 45 refl)) (no-more !)) (λ v₂ r₂ ws₂ e₂ is₂.
+        (λ r ws. r ≡ min count 80) (λ r ws. id⊢ 𝓤 _) (and-then ! (load ! (from ! (stop !)) (look ! 29 refl)) (no-more !)) (λ v₁ r₁ ws₁ e₁ is₁.
         drop ! $ drop ! $
-        land ! (from ! (stop !)) (init ! 32 refl (uint-lawful 𝓤 H A W w64 .typed r₂ _ is₂ .0)) $ rewrite ! 32 (λ (u : Val). ‵ (fat fullShare (tyInt w64) l₁₀ 0 u)) (ap only (is₂ .0)) refl $
-        assigns ! (addr ! (from ! (stop !))) (from ! (stop !)) (init ! 22 refl (tt, tt)) $
-        assigns ! (agg ! (and-then ! (load ! (from ! (stop !)) (look ! 22 refl)) (and-then ! (load ! (from ! (stop !)) (look ! 32 refl)) (no-more !)))) (from ! (stop !)) (init ! 20 refl (tt, (tt, (record { fits = is₂ .1 }, tt)))) $
-        assigns ! (addr ! (from ! (fld ! refl (hop ! (look-in ! 38 (sub ! 0 refl (whole !))) (stop !))))) (from ! (stop !)) (init ! 18 refl (tt, tt)) $
-        assigns ! (agg ! (and-then ! (load ! (from ! (stop !)) (look ! 18 refl)) (and-then ! (load ! (from ! (fld ! refl (stop !))) (look-in ! 38 (sub ! 1 refl (whole !)))) (no-more !)))) (from ! (stop !)) (init ! 16 refl (tt, (tt, (record { fits = g-out .0 }, tt)))) $
+        land ! (from ! (stop !)) (init ! 16 refl (uint-lawful 𝓤 H A W w64 .typed r₁ _ is₁ .0)) $ rewrite ! 16 (λ (u : Val). ‵ (fat fullShare (tyInt w64) l₁₀ 0 u)) (ap only (is₁ .0)) refl $
+        assigns ! (addr ! (from ! (stop !))) (from ! (stop !)) (init ! 14 refl (tt, tt)) $
+        assigns ! (agg ! (and-then ! (load ! (from ! (stop !)) (look ! 14 refl)) (and-then ! (load ! (from ! (stop !)) (look ! 16 refl)) (no-more !)))) (from ! (stop !)) (init ! 12 refl (tt, (tt, (record { fits = is₁ .1 }, tt)))) $
+        assigns ! (addr ! (from ! (fld ! refl (hop ! (look-in ! 22 (sub ! 0 refl (whole !))) (stop !))))) (from ! (stop !)) (init ! 10 refl (tt, tt)) $
+        assigns ! (agg ! (and-then ! (load ! (from ! (stop !)) (look ! 10 refl)) (and-then ! (load ! (from ! (fld ! refl (stop !))) (look-in ! 22 (sub ! 1 refl (whole !)))) (no-more !)))) (from ! (stop !)) (init ! 8 refl (tt, (tt, (record { fits = g-out .0 }, tt)))) $
         -- `write_job`
-        move ! (6 ∷ 7 ∷ []) $ lends-mut ! tt u8 out b₃ o₃ (λ ν₃₆ δ₃₆. move ! (7 ∷ []) $ hands-shr ! u16 order b₂ o₂ $ move ! (36 ∷ []) $ array-opens ! rec tt 80 r₁ l₉ 0 _ is₁ $ shares-front ! tt T.the-row r₁ l₉ 0 r₂ (front-fits r₁ r₂ (is₁ .1 .0 .1) (within-lendable r₂ count e₂)) (room-within r₂ (within-lendable r₂ count e₂)) (λ ν₃₃ δ₃₃. move ! (10 ∷ []) $ hands-shr ! u16 closed b₁ o₁ $ move ! (10 ∷ []) $ hands-shr ! u16 lanes b₀ o₀ $
-        move ! (9 ∷ 7 ∷ 4 ∷ 2 ∷ 0 ∷ []) $ nothing ! $ adds ! $ passes ! w64 dwell (g-dwell) $ adds ! $ adds ! $ adds ! $ adds ! $ passes ! w64 nodes (g-nodes) $ move ! (6 ∷ 10 ∷ 3 ∷ 9 ∷ 8 ∷ []) $ nothing ! $ adds ! $ adds ! $ adds ! $ adds ! $ adds ! $
-        calls-spec ! fm write-job.ended (write-job.clauses 𝓤 H A mem run) known-write-job (κ₀, (κ₁, (ν₃₃ ∷ [], (κ₂, (ν₃₆ ∷ [], tt))))) (q₀, (q₁, (fullShare, (q₂, (fullShare, tt))))) tt (nodes, (ref b₀ o₀ γ₀ lanes, (ref b₁ o₁ γ₁ closed, (ref l₉ 0 δ₃₃ (take r₂ r₁), (ref b₂ o₂ γ₂ order, (dwell, (ref b₃ o₃ δ₃₆ out, tt))))))) (vint w64 nodes ∷ [], (mv₀ ∷ [], (mv₁ ∷ [], (sliceVal (l₉, 0) r₂ ∷ [], (mv₂ ∷ [], (vint w64 dwell ∷ [], (mv₃ ∷ [], tt))))))) tt (id⊢ 𝓤 (emp 𝓤))
-        (λ r ws. RecordWriting (networkOf nodes lanes closed) (networkOf nodes lanes closed) (take r₂ r₁) (take r₂ r₁) order order dwell out (ws .1 .1 .1 .1 .1 .1 .0) r) (λ r ws. id⊢ 𝓤 _) (and-then ! (load ! (from ! (stop !)) (look ! 47 refl)) (and-then ! (load ! (from ! (stop !)) (look ! 45 refl)) (and-then ! (load ! (from ! (stop !)) (look ! 43 refl)) (and-then ! (load ! (from ! (stop !)) (look ! 18 refl)) (and-then ! (load ! (from ! (stop !)) (look ! 39 refl)) (and-then ! (load ! (from ! (stop !)) (look ! 37 refl)) (and-then ! (load ! (from ! (stop !)) (look ! 14 refl)) (no-more !)))))))) (λ v₃ r₃ ws₃ e₃ is₃.
+        move ! (6 ∷ 7 ∷ []) $ lends-mut ! tt u8 out b₃ o₃ (λ ν₂₆ δ₂₆. move ! (7 ∷ []) $ hands-shr ! u16 order b₂ o₂ $ move ! (20 ∷ []) $ array-opens ! rec tt 80 records l₉ 0 _ g-records $ shares-front ! tt T.the-row records l₉ 0 r₁ (front-fits records r₁ (g-records .1 .0 .1) (within-lendable r₁ count e₁)) (room-within r₁ (within-lendable r₁ count e₁)) (λ ν₂₃ δ₂₃. move ! (10 ∷ []) $ hands-shr ! u16 closed b₁ o₁ $ move ! (10 ∷ []) $ hands-shr ! u16 lanes b₀ o₀ $
+        move ! (9 ∷ 7 ∷ 4 ∷ 2 ∷ 0 ∷ []) $ nothing ! $ adds ! $ passes ! w64 dwell g-dwell $ adds ! $ adds ! $ adds ! $ adds ! $ passes ! w64 nodes g-nodes $ move ! (6 ∷ 10 ∷ 3 ∷ 9 ∷ 8 ∷ []) $ nothing ! $ adds ! $ adds ! $ adds ! $ adds ! $ adds ! $
+        calls-spec ! fm write-job.ended (write-job.clauses 𝓤 H A mem run) known-write-job (κ₀, (κ₁, (ν₂₃ ∷ [], (κ₂, (ν₂₆ ∷ [], tt))))) (q₀, (q₁, (fullShare, (q₂, (fullShare, tt))))) tt (nodes, (ref b₀ o₀ γ₀ lanes, (ref b₁ o₁ γ₁ closed, (ref l₉ 0 δ₂₃ (take r₁ records), (ref b₂ o₂ γ₂ order, (dwell, (ref b₃ o₃ δ₂₆ out, tt))))))) (vint w64 nodes ∷ [], (mv₀ ∷ [], (mv₁ ∷ [], (sliceVal (l₉, 0) r₁ ∷ [], (mv₂ ∷ [], (vint w64 dwell ∷ [], (mv₃ ∷ [], tt))))))) tt (id⊢ 𝓤 (emp 𝓤))
+        (λ r ws. RecordWriting (networkOf nodes lanes closed) (networkOf nodes lanes closed) (take r₁ records) (take r₁ records) order order dwell out (ws .1 .1 .1 .1 .1 .1 .0) r) (λ r ws. id⊢ 𝓤 _) (and-then ! (load ! (from ! (stop !)) (look ! 31 refl)) (and-then ! (load ! (from ! (stop !)) (look ! 29 refl)) (and-then ! (load ! (from ! (stop !)) (look ! 27 refl)) (and-then ! (load ! (from ! (stop !)) (look ! 10 refl)) (and-then ! (load ! (from ! (stop !)) (look ! 23 refl)) (and-then ! (load ! (from ! (stop !)) (look ! 21 refl)) (and-then ! (load ! (from ! (stop !)) (look ! 6 refl)) (no-more !)))))))) (λ v₂ r₂ ws₂ e₂ is₂.
         parts ! $ parts ! $ parts ! $ parts ! $ parts ! $ drop ! $ move ! (5 ∷ []) $ fsplit ! $ drop ! $ fsplit ! $ drop ! $ fsplit ! $ drop ! $ fsplit ! $ drop ! $ fsplit ! $ drop ! $ fsplit ! $ drop ! $ parts ! $ drop ! $
-        let out₃ = ws₃ .1 .1 .1 .1 .1 .1 .0 in
-        move ! (1 ∷ 10 ∷ 0 ∷ []) $ unlends-mut ! tt u8 out b₃ o₃ out₃ (λ long-out₃.
-        move ! (3 ∷ 8 ∷ []) $ unshares-front ! tt T.the-row r₁ l₉ 0 r₂ $ array-shuts-is ! rec 80 (r₁) l₉ 0 (is₁ .1 .0 .1) (λ is-records₃.
-        move ! (6 ∷ 5 ∷ 7 ∷ 4 ∷ 8 ∷ 3 ∷ 1 ∷ 2 ∷ 9 ∷ 10 ∷ []) $ move ! (10 ∷ []) $ puts ! 34 $
-        land ! (from ! (stop !)) (init ! 30 refl (EL.lawful E₀.the-type E₀′.the-laws 𝓤 H A W tt .typed r₃ _ is₃ .0)) $
-        assigns ! (of-opd ! (load ! (from ! (stop !)) (look ! 34 refl))) (from ! (stop !)) (store ! 28 refl (records-typed 𝓤 H A W r₁ _ is-records₃ .0)) $
-        assigns ! (addr ! (from ! (fld ! refl (hop ! (look-in ! 36 (sub ! 0 refl (whole !))) (stop !))))) (from ! (stop !)) (init ! 12 refl (tt, tt)) $
-        assigns ! (agg ! (and-then ! (load ! (from ! (stop !)) (look ! 12 refl)) (and-then ! (load ! (from ! (fld ! refl (stop !))) (look-in ! 36 (sub ! 1 refl (whole !)))) (no-more !)))) (from ! (stop !)) (init ! 10 refl (tt, (tt, (record { fits = g-fields .0 }, tt)))) $
-        -- `told`
-        move ! (8 ∷ 9 ∷ []) $ lends-mut ! tt u32 fields b₄ o₄ (λ ν₄₁ δ₄₁.
-        nothing ! $ adds ! $ owned ! Records (Is Records) (records-makes 𝓤 H A W) r₁ (only (array-vals (rec .vals) r₁) ∷ []) is-records₃ $ fjoin ! $ move ! (1 ∷ []) $ nothing ! $ adds ! $
-        calls-spec ! fm told.ended (told.clauses 𝓤 H A mem run) known-told (ν₄₁ ∷ [], tt) (fullShare, tt) tt (r₁, (ref b₄ o₄ δ₄₁ fields, tt)) (only (array-vals (rec .vals) r₁) ∷ [], (mv₄ ∷ [], tt)) tt (id⊢ 𝓤 (emp 𝓤))
-        (λ r ws. (ws .1 .0) ≡ toldTo r₁ fields) (λ r ws. id⊢ 𝓤 _) (and-then ! (load ! (from ! (stop !)) (look ! 28 refl)) (and-then ! (load ! (from ! (stop !)) (look ! 10 refl)) (no-more !))) (λ v₄ r₄ ws₄ e₄ is₄.
-        parts ! $ drop ! $ move ! (1 ∷ []) $ fsplit ! $ drop ! $ parts ! $ drop ! $
-        let fields₄ = ws₄ .1 .0 in
-        move ! (1 ∷ 2 ∷ 0 ∷ []) $ unlends-mut ! tt u32 fields b₄ o₄ fields₄ (λ long-fields₄.
-        move ! (2 ∷ 3 ∷ 4 ∷ 5 ∷ 6 ∷ 7 ∷ 8 ∷ 9 ∷ 0 ∷ 1 ∷ []) $
-        land ! (from ! (stop !)) (init ! 14 refl (nothing-lawful 𝓤 H A W .typed tt _ is₄ .0)) $
-        assigns ! (of-opd ! (load ! (from ! (stop !)) (look ! 30 refl))) (from ! (stop !)) (init ! 52 refl (EL.lawful E₀.the-type E₀′.the-laws 𝓤 H A W tt .typed r₃ _ is₃ .0)) $
-        returns ! (look ! 52 refl) $ frees-all ! 10 (some _ ∷ some _ ∷ some _ ∷ some _ ∷ some _ ∷ some _ ∷ some _ ∷ some _ ∷ some _ ∷ some _ ∷ some _ ∷ some _ ∷ some _ ∷ some _ ∷ some _ ∷ some _ ∷ some _ ∷ some _ ∷ some _ ∷ some _ ∷ some _ ∷ some _ ∷ []) refl $
-        by ! (exits r₃ v₃ out₃ fields₄ is₃ (lends-kept (λ rs ls. RecordWriting (networkOf nodes lanes closed) (networkOf nodes lanes closed) rs ls order order dwell out out₃ r₃) count fields fields₄ r₁ r₂ e₁ e₂ e₃ e₄) (long-out₃) (long-fields₄)))))))))))))))))))))))))))))))))))
+        let out₂ = ws₂ .1 .1 .1 .1 .1 .1 .0 in
+        move ! (1 ∷ 10 ∷ 0 ∷ []) $ unlends-mut ! tt u8 out b₃ o₃ out₂ (λ long-out₂.
+        move ! (3 ∷ 8 ∷ []) $ unshares-front ! tt T.the-row records l₉ 0 r₁ $ array-shuts ! rec 80 records l₉ 0 (g-records .1 .0 .1) $
+        puts ! 18 $ move ! (5 ∷ 4 ∷ 6 ∷ 3 ∷ 7 ∷ 2 ∷ 0 ∷ 1 ∷ []) $
+        land ! (from ! (stop !)) (init ! 36 refl (EL.lawful E₀.the-type E₀′.the-laws 𝓤 H A W tt .typed r₂ _ is₂ .0)) $
+        returns ! (look ! 36 refl) $ frees-all ! 8 (some _ ∷ some _ ∷ some _ ∷ some _ ∷ some _ ∷ some _ ∷ some _ ∷ some _ ∷ some _ ∷ some _ ∷ some _ ∷ some _ ∷ some _ ∷ some _ ∷ some _ ∷ []) refl $
+        by ! (exits r₂ v₂ out₂ is₂ (subst (λ (k : ℕ). RecordWriting (networkOf nodes lanes closed) (networkOf nodes lanes closed) (take k records) (take k records) order order dwell out out₂ r₂) e₁ e₂) long-out₂)))))))))))))))))))))
 
-module _ {M : Type 1} (𝓤 : URA M) (H : Heap 𝓤) (A : Atoms 𝓤) (W : Given 𝓤 H A) (mem : Memory → SProp 𝓤) (run : Routine → Fun 𝓤) (𝓣 : Tables 𝓤 H) (known-made : Triple 𝓤 (𝓣 .C #made) (tripleOf 𝓤 H A made.signature (made.spec 𝓤 H A mem run))) (known-within : Triple 𝓤 (𝓣 .C #within) (tripleOf 𝓤 H A within.signature (within.spec 𝓤 H A mem run))) (known-write-job : Triple 𝓤 (𝓣 .C #write-job) (tripleOf 𝓤 H A write-job.signature (write-job.spec 𝓤 H A mem run))) (known-told : Triple 𝓤 (𝓣 .C #told) (tripleOf 𝓤 H A told.signature (told.spec 𝓤 H A mem run))) where
+module _ {M : Type 1} (𝓤 : URA M) (H : Heap 𝓤) (A : Atoms 𝓤) (W : Given 𝓤 H A) (mem : Memory → SProp 𝓤) (run : Routine → Fun 𝓤) (𝓣 : Tables 𝓤 H) (known-within : Triple 𝓤 (𝓣 .C #within) (tripleOf 𝓤 H A within.signature (within.spec 𝓤 H A mem run))) (known-write-job : Triple 𝓤 (𝓣 .C #write-job) (tripleOf 𝓤 H A write-job.signature (write-job.spec 𝓤 H A mem run))) where
   walks : Walks 𝓤 H A f.ended stayed (WpFn 𝓤 H (𝓣 .C) (𝓣 .Λ) code.function) (f.clauses 𝓤 H A mem run)
-  walks = walked 𝓤 H A f.ended stayed (f.clauses 𝓤 H A mem run) (WpFn 𝓤 H (𝓣 .C) (𝓣 .Λ) code.function) (λ κs. (uint-vals w64, (slice-vals, (slice-vals, (uint-vals w64, (slice-vals, (uint-vals w64, (slice-vals, (slice-vals, tt)))))))))
-      (λ κs. (uint-tells w64, (shr-slice-tells (named 0) (κs .0) u16, (shr-slice-tells (named 1) (κs .1 .0) u16, (uint-tells w64, (shr-slice-tells (named 2) (κs .1 .1 .0) u16, (uint-tells w64, (mut-slice-tells (named 3) (κs .1 .1 .1 .0) u8, (mut-slice-tells (named 4) (κs .1 .1 .1 .1 .0) u32, tt)))))))))
+  walks = walked 𝓤 H A f.ended stayed (f.clauses 𝓤 H A mem run) (WpFn 𝓤 H (𝓣 .C) (𝓣 .Λ) code.function) (λ κs. (uint-vals w64, (slice-vals, (slice-vals, (uint-vals w64, (slice-vals, (uint-vals w64, (slice-vals, (array-vals (rec .vals), tt)))))))))
+      (λ κs. (uint-tells w64, (shr-slice-tells (named 0) (κs .0) u16, (shr-slice-tells (named 1) (κs .1 .0) u16, (uint-tells w64, (shr-slice-tells (named 2) (κs .1 .1 .0) u16, (uint-tells w64, (mut-slice-tells (named 3) (κs .1 .1 .1 .0) u8, (records-tells, tt)))))))))
       (λ κs qs bounds a g are. via 𝓤 _ (fst∗ 𝓤 _ (emp 𝓤))
-      (walk 𝓤 H A W mem run (κs .0) (κs .1 .0) (κs .1 .1 .0) (κs .1 .1 .1 .0) (κs .1 .1 .1 .1 .0) (qs .0) (qs .1 .0) (qs .1 .1 .0) (qs .1 .1 .1 .0) (qs .1 .1 .1 .1 .0) (a .1 .0 .ptr .0) (a .1 .0 .ptr .1) (a .1 .1 .0 .ptr .0) (a .1 .1 .0 .ptr .1) (a .1 .1 .1 .1 .0 .ptr .0) (a .1 .1 .1 .1 .0 .ptr .1) (a .1 .1 .1 .1 .1 .1 .0 .ptr .0) (a .1 .1 .1 .1 .1 .1 .0 .ptr .1) (a .1 .1 .1 .1 .1 .1 .1 .0 .ptr .0) (a .1 .1 .1 .1 .1 .1 .1 .0 .ptr .1) (a .1 .0 .name) (a .1 .1 .0 .name) (a .1 .1 .1 .1 .0 .name) (a .1 .1 .1 .1 .1 .1 .0 .name) (a .1 .1 .1 .1 .1 .1 .1 .0 .name)
-      (a .0) (are .0 .1) (a .1 .1 .1 .0) (are .1 .1 .1 .0 .1) (a .1 .1 .1 .1 .1 .0) (are .1 .1 .1 .1 .1 .0 .1) (a .1 .0 .now) (a .1 .1 .0 .now) (a .1 .1 .1 .1 .0 .now) (a .1 .1 .1 .1 .1 .1 .0 .now) (a .1 .1 .1 .1 .1 .1 .1 .0 .now) (are .1 .0 .0 .1) (are .1 .1 .0 .0 .1) (are .1 .1 .1 .1 .0 .0 .1) (are .1 .1 .1 .1 .1 .1 .0 .0 .1) (are .1 .1 .1 .1 .1 .1 .1 .0 .0 .1) 𝓣 known-made known-within known-write-job known-told))
+      (walk 𝓤 H A W mem run (κs .0) (κs .1 .0) (κs .1 .1 .0) (κs .1 .1 .1 .0) (qs .0) (qs .1 .0) (qs .1 .1 .0) (qs .1 .1 .1 .0) (a .1 .0 .ptr .0) (a .1 .0 .ptr .1) (a .1 .1 .0 .ptr .0) (a .1 .1 .0 .ptr .1) (a .1 .1 .1 .1 .0 .ptr .0) (a .1 .1 .1 .1 .0 .ptr .1) (a .1 .1 .1 .1 .1 .1 .0 .ptr .0) (a .1 .1 .1 .1 .1 .1 .0 .ptr .1) (a .1 .0 .name) (a .1 .1 .0 .name) (a .1 .1 .1 .1 .0 .name) (a .1 .1 .1 .1 .1 .1 .0 .name)
+      (a .0) (are .0 .1) (a .1 .1 .1 .0) (are .1 .1 .1 .0 .1) (a .1 .1 .1 .1 .1 .0) (are .1 .1 .1 .1 .1 .0 .1) (a .1 .1 .1 .1 .1 .1 .1 .0) _ (are .1 .1 .1 .1 .1 .1 .1 .0) (a .1 .0 .now) (a .1 .1 .0 .now) (a .1 .1 .1 .1 .0 .now) (a .1 .1 .1 .1 .1 .1 .0 .now) (are .1 .0 .0 .1) (are .1 .1 .0 .0 .1) (are .1 .1 .1 .1 .0 .0 .1) (are .1 .1 .1 .1 .1 .1 .0 .0 .1) 𝓣 known-within known-write-job))
 
   meets : Meets 𝓤 H A f.signature (WpFn 𝓤 H (𝓣 .C) (𝓣 .Λ) code.function) (f.spec 𝓤 H A mem run)
   meets = walk-meets 𝓤 H A f.ended stayed W
-      (goes-dropped 𝓤 H A W 5 (plain (λ _. usize)) yes (λ κs x f. refl), (goes-dropped 𝓤 H A W 5 (shrSliceOf (0 ∷ []) tt (plain (λ _. u16))) yes (λ κs x f. refl), (goes-dropped 𝓤 H A W 5 (shrSliceOf (1 ∷ []) tt (plain (λ _. u16))) yes (λ κs x f. refl), (goes-dropped 𝓤 H A W 5 (plain (λ _. usize)) yes (λ κs x f. refl), (goes-dropped 𝓤 H A W 5 (shrSliceOf (2 ∷ []) tt (plain (λ _. u16))) yes (λ κs x f. refl), (goes-dropped 𝓤 H A W 5 (plain (λ _. usize)) yes (λ κs x f. refl), (goes-slice 𝓤 H A W 5 3 tt (plain (λ _. u8)), (goes-slice 𝓤 H A W 5 4 tt (plain (λ _. u32)), tt))))))))
+      (goes-dropped 𝓤 H A W 4 (plain (λ _. usize)) yes (λ κs x f. refl), (goes-dropped 𝓤 H A W 4 (shrSliceOf (0 ∷ []) tt (plain (λ _. u16))) yes (λ κs x f. refl), (goes-dropped 𝓤 H A W 4 (shrSliceOf (1 ∷ []) tt (plain (λ _. u16))) yes (λ κs x f. refl), (goes-dropped 𝓤 H A W 4 (plain (λ _. usize)) yes (λ κs x f. refl), (goes-dropped 𝓤 H A W 4 (shrSliceOf (2 ∷ []) tt (plain (λ _. u16))) yes (λ κs x f. refl), (goes-dropped 𝓤 H A W 4 (plain (λ _. usize)) yes (λ κs x f. refl), (goes-slice 𝓤 H A W 4 3 tt (plain (λ _. u8)), (goes-dropped 𝓤 H A W 4 (plain (λ _. Records)) yes (λ κs x f. refl), tt))))))))
       (f.clauses 𝓤 H A mem run) (WpFn 𝓤 H (𝓣 .C) (𝓣 .Λ) code.function) (WpFn-mono 𝓤 H (W .laws) 𝓣 code.function) walks
 
 pub write-lent-spec : {M : Type 1} → stated.statement M
@@ -203,7 +166,5 @@ write-lent-spec 𝓤 H 𝓜 𝓖 𝓡 =
     entered 𝓤 H (tripleOf 𝓤 H (𝓖 .A) f.signature (f.spec 𝓤 H (𝓖 .A) (𝓜 .mem) (𝓡 .run)))
     (tables 𝓤 H 𝓜 𝓡 code.env .C) (tables 𝓤 H 𝓜 𝓡 code.env .Λ) #try-records·write-lent code.function (code.unfolded 𝓤 H 𝓜 𝓡)
     (meets 𝓤 H (𝓖 .A) (givenOf 𝓤 H 𝓜 𝓖) (𝓜 .mem) (𝓡 .run) (tablesOf 𝓤 H 𝓜 (tables 𝓤 H 𝓜 𝓡 code.env))
-    (cited 𝓤 H (tripleOf 𝓤 H (𝓖 .A) made.signature (made.spec 𝓤 H (𝓖 .A) (𝓜 .mem) (𝓡 .run))) 𝓜 𝓡 code.env #made made-def.routine code.calls-try-columns·made (made-thm.met 𝓤 H 𝓜 𝓖 𝓡))
     (cited 𝓤 H (tripleOf 𝓤 H (𝓖 .A) within.signature (within.spec 𝓤 H (𝓖 .A) (𝓜 .mem) (𝓡 .run))) 𝓜 𝓡 code.env #within within-def.routine code.calls-try-columns·within (within-thm.met 𝓤 H 𝓜 𝓖 𝓡))
-    (cited 𝓤 H (tripleOf 𝓤 H (𝓖 .A) write-job.signature (write-job.spec 𝓤 H (𝓖 .A) (𝓜 .mem) (𝓡 .run))) 𝓜 𝓡 code.env #write-job write-job-def.routine code.calls-jobs·write-job (write-job-thm.met 𝓤 H 𝓜 𝓖 𝓡))
-    (cited 𝓤 H (tripleOf 𝓤 H (𝓖 .A) told.signature (told.spec 𝓤 H (𝓖 .A) (𝓜 .mem) (𝓡 .run))) 𝓜 𝓡 code.env #told told-def.routine code.calls-try-columns·told (told-thm.met 𝓤 H 𝓜 𝓖 𝓡)))
+    (cited 𝓤 H (tripleOf 𝓤 H (𝓖 .A) write-job.signature (write-job.spec 𝓤 H (𝓖 .A) (𝓜 .mem) (𝓡 .run))) 𝓜 𝓡 code.env #write-job write-job-def.routine code.calls-jobs·write-job (write-job-thm.met 𝓤 H 𝓜 𝓖 𝓡)))
