@@ -88,19 +88,19 @@ pub fn answers_to(case: &Case) -> Vec<Answer> {
         Case::PlanRecords { table, job } => Answer::Left(lent_plan::records(*table, job)),
         Case::PlanLists { lent, job } => Answer::Left(lent_plan::lists(*lent, job)),
         Case::PathOfRecords { path, carrier, job } => {
-            Answer::Left(lent::house_of_records(*path, *carrier, job))
+            Answer::Left(lent::house_of_carrier(*path, *carrier, &job.job()))
         }
         Case::PathLent { path, asked, hall } => {
             Answer::Left(lent::house_of_move(*path, *asked, hall))
         }
         Case::JudgeRecords { carrier, list, job } => {
-            Answer::Left(lent::judge_of_records(*carrier, list, job))
+            judged(judge_for_carrier(&job.job(), *carrier, list))
         }
         Case::ChooseNumbers { asked, own, spare, hall } => {
             Answer::Left(lent::choice(*asked, own, spare, hall))
         }
-        Case::WriteNumbers { out, job } => Answer::Left(lent_write::numbers(*out, job)),
-        Case::WriteRecords { out, job } => Answer::Left(lent_write::records(*out, job)),
+        Case::WriteNumbers { out, job } => Answer::Left(lent_write::again(*out, 0, &job.job())),
+        Case::WriteRecords { out, job } => Answer::Left(lent_write::again(*out, 0, &job.job())),
     };
     vec![one]
 }

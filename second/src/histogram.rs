@@ -1,6 +1,6 @@
 // What a batch holds: how often each kind of case is accepted and how often
 // it meets each refusal, so that a reader sees at a glance what is missing.
-// Refusal 9 comes only where tables are lent with a length of their own, and
+// Refusal 9 comes only where a table is lent shorter than its least length, and
 // the column of 6, which is not in use, has zeros alone. What was chosen,
 // planned and written is told in a few lines below the table.
 

@@ -9,8 +9,8 @@
 use crate::job::{
     refuse, Hall, Job, Move, Refusal, MOST_CARRIERS, MOST_CLOSED, MOST_LANES, MOST_NODES,
 };
-use crate::lent_jobs::{Record, Recorded};
-use crate::paths::{choose, house_path_of_carrier, house_path_of_move, judge_for_carrier, Choice};
+use crate::lent_jobs::Record;
+use crate::paths::{choose, house_path_of_carrier, house_path_of_move, Choice};
 
 pub const MARK: u32 = 7777;
 /// The mark of a lent byte.
@@ -84,8 +84,7 @@ impl Columns {
         ])
     }
 
-    /// The records of so many carriers, which is at most as many as there is
-    /// room for.
+    /// The first `count` records, 80 at most.
     pub fn records(&self, count: usize) -> Vec<Record> {
         let [starts, goals, distances, ticks] = &self.0;
         let short = |column: &[u32], i: usize| column[i] as u16;
@@ -133,19 +132,8 @@ pub fn house_of_carrier(path: u16, carrier: u16, job: &Job) -> Lent {
     housed(path, || house_path_of_carrier(job, carrier))
 }
 
-pub fn house_of_records(path: u16, carrier: u16, recorded: &Recorded) -> Lent {
-    let mut lent = house_of_carrier(path, carrier, &recorded.job());
-    lent.tables.push(Columns::of(&recorded.records).table());
-    lent
-}
-
 pub fn house_of_move(path: u16, asked: Move, hall: &Hall) -> Lent {
     housed(path, || house_path_of_move(hall, asked))
-}
-
-pub fn judge_of_records(carrier: u16, list: &[u16], recorded: &Recorded) -> Lent {
-    let said = judge_for_carrier(&recorded.job(), carrier, list).map(|()| "PASSED".to_string());
-    Lent { said, tables: vec![Columns::of(&recorded.records).table()] }
 }
 
 /// The choice with a network and a move, and how long the chosen list is.

@@ -4,8 +4,7 @@
 // so that a byte too many or one that was not cleared is found out.
 
 use crate::job::Job;
-use crate::lent::{Columns, Lent, BYTE_MARK};
-use crate::lent_jobs::{Listed, Recorded};
+use crate::lent::{Lent, BYTE_MARK};
 use crate::write::write_again;
 
 /// How many bytes the batch program has for a text. More are not lent; the
@@ -25,16 +24,4 @@ pub fn again(out: u16, writings: u16, job: &Job) -> Lent {
         format!("BYTES {}\n{}", length, lines)
     });
     Lent { said, tables: vec![("out", left)] }
-}
-
-/// Writing from numbers: an odd last number of the moves is in no move.
-pub fn numbers(out: u16, listed: &Listed) -> Lent {
-    again(out, 0, &listed.job())
-}
-
-/// Writing from records, which come back as they were.
-pub fn records(out: u16, recorded: &Recorded) -> Lent {
-    let mut lent = again(out, 0, &recorded.job());
-    lent.tables.push(Columns::of(&recorded.records).table());
-    lent
 }

@@ -99,6 +99,12 @@ fn broken(checks: &mut Checks) {
         let spare = [&payload[..10], &[1, 0, 0, 0], &payload[12..]].concat();
         checks.same("a spare list", payload[8] > 0 || !is_read(&spare), true);
     }
+    for (kind, unused) in [(b'P', 0), (b'a', 2), (b'Q', 0), (b'H', 6)] {
+        let mut payload = vec![0; 12];
+        checks.same("no text", cases_of(&file_of(kind, &payload)).is_ok(), true);
+        payload[unused] = 1;
+        checks.same("an unused number", cases_of(&file_of(kind, &payload)).is_ok(), false);
+    }
     checks.same("no such kind", cases_of(&file_of(b'N', &[0; 12])).is_ok(), false);
     checks.same("a file that ends early", cases_of(&[b'P', 12, 0, 0, 0]).is_ok(), false);
 }

@@ -3,7 +3,7 @@
 
 use crate::answers::printed_to;
 use crate::batch::Case;
-use crate::job::{refuse, Move};
+use crate::job::Move;
 use crate::least_cases::{move_numbers, path_of_carrier, path_of_move};
 use crate::lent::{self, MARK};
 use crate::lent_jobs::{Listed, Record, Recorded};
@@ -104,16 +104,17 @@ fn paths(checks: &mut Checks) {
     checks.same("path", found, format!("PATH 5\n{}", path));
     let found = lent::house_of_move(1023, asked, &job.hall).printed();
     checks.same("path, short", found.as_str(), "REFUSED 9 0\npath 1100x7777\n");
-    let found = lent::house_of_records(1024, 3, &recorded([0, 1, 2], 7));
+    let found = lent::house_of_carrier(1024, 3, &recorded([0, 1, 2], 7).job());
     checks.same("path, no carrier", found.tables[0].1[..1025].to_vec(), {
         let mut left = vec![0; 1024];
         left.push(MARK);
         left
     });
-    let found = lent::judge_of_records(2, &[2, 1], &recorded([0, 1, 2], 7));
-    checks.same("judge", found.said.is_ok(), true);
-    let found = lent::judge_of_records(2, &[2, 1], &recorded([0, 1, 2], 256));
-    checks.same("judge, a dwell too long", found.said, refuse(2, 5));
+    for (dwell, told) in [(7, "PASSED\n"), (256, "REFUSED 2 5\n")] {
+        let job = recorded([0, 1, 2], dwell);
+        let case = Case::JudgeRecords { carrier: 2, list: vec![2, 1], job };
+        checks.same("judge", printed_to(&case).as_str(), told);
+    }
     let found = lent::choice(asked, &[0, 4], &[0, 1, 2, 3, 4], &job.hall).printed();
     checks.same("choice", found.as_str(), "SPARE\n5\n");
 }

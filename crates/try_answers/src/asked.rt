@@ -1,6 +1,6 @@
-// The questions about a job, or about a move in its network, wherever the job comes from. What is asked stands
-// in the payload's four numbers, the lengths of what is lent or a length and a carrier or a move, and in its
-// two lists.
+// The questions about a job, or about a move in its network, wherever the job comes from. The payload's four
+// numbers say how long each lent table is, and which carrier or move is asked about; its lists are the ones
+// to judge, or to choose from.
 use asks::house_for;
 use asks::judge_for;
 use hall::Carrier;
@@ -122,8 +122,8 @@ fn print_judged_for(
     ));
 }
 
-// The job is written once and so many further times as the payload's second number says: the benchmark gets
-// the time of writing from that, and all other cases have a 0 there.
+// The job is written once, and then as often as the payload's second number says: the benchmark gets the time
+// of writing from that.
 fn write(
     s: &[u8],
     nodes: usize,

@@ -1,7 +1,7 @@
 // Answers the kinds of cases that take no records (second/README.md, "Batch format"): each takes its payload
-// apart, asks the library one question, or two, with lent tables full of marks, and prints the answer and what
-// the tables hold. The answers are the library's; nothing is decided here. What is printed no contract can
-// say, so that every function is safe and ends is all that there is to promise.
+// apart, asks the library one question, or two, and prints the answer and what the tables hold that were lent
+// full of marks. The answers are the library's; nothing is decided here. What is printed no contract can say,
+// so that every function is safe and ends is all that there is to promise.
 mod asked;
 mod text;
 

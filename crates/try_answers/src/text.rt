@@ -47,8 +47,8 @@ pub(crate) fn read(s: &[u8], text: &[u8]) {
     print_runs(b"order", &[], &order, &[]);
 }
 
-// A question about the job of a text. The text is read once and so many further times as the payload's last
-// number says: the benchmark gets the time of reading from that, and all other cases have a 0 there.
+// A question about the job of a text. The text is read once, and then as often as the payload's last number
+// says: the benchmark gets the time of reading from that.
 pub(crate) fn ask_of(kind: u8, s: &[u8], text: &[u8]) {
     let mut lanes = [0u16; Job::LANE_NUMBERS];
     let mut closed = [0u16; Job::NODES];

@@ -1,6 +1,4 @@
--- The numbers and lists of a payload, tables full of marks, what reading a case leaves, and what an answer
--- tells.
+-- The numbers and lists of a payload, tables full of marks, and what reading a case leaves.
 pub mod Payloads
 pub mod Marked
 pub mod Cases
-pub mod Told

@@ -1,4 +1,4 @@
--- Tables full of marks (second/README.md, "Lent tables").
+-- Tables full of marks (second/README.md, "Batch format").
 --     shortPlaces     how many places the longest table of numbers has
 --     shortMark       the mark that each of them holds
 --     bytePlaces      how many bytes the room for a text has: more than an output of a text must have

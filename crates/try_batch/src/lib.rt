@@ -1,7 +1,7 @@
 // What the crates of the comparison share: a case of a batch from standard input, the numbers and lists of
-// its payload, tables full of marks, and the printing of answers. The format of a batch and of the answers stands in
-// second/README.md. Nothing is checked here but what keeps a program safe: a case that is cut off or too long
-// is answered by what there is of it.
+// its payload, tables full of marks, and the printing of answers. The format of a batch and of the answers
+// stands in second/README.md. Nothing is checked here but what keeps a program safe: a case that is cut off
+// or too long is answered by what there is of it.
 //
 // Each function is safe for every input and ends, and its promise fixes what it answers. Two things no
 // contract can say: what is read and written, so `next_case` promises less and a function that only prints

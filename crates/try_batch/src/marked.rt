@@ -1,7 +1,7 @@
 // Tables full of marks: the front that is lent to a question, and what the whole table holds afterwards. That
-// is printed on one line, a run of equal numbers as how often, an `x` and the number: a table of 12,400 places
-// that are mostly zero or a mark takes a few bytes. Shorts are nodes, distances and lane numbers; numbers are
-// ticks and what stands in records.
+// is printed on one line, a run of equal numbers as how often, an `x` and the number: a table of 12,400
+// places that are mostly zero or a mark takes a few bytes. Shorts are nodes, distances and lane numbers;
+// numbers are ticks and what stands in records.
 use super::payload::least;
 use super::payload::opening;
 use super::payload::rest;
@@ -14,13 +14,14 @@ ghost use denote.Ref.{now};
 ghost use Rattle.try_batch.specs.Payloads.{shortIn};
 ghost use Rattle.try_batch.specs.Marked.{shortPlaces, shortMark, bytePlaces, byteMark};
 
-// The longest table that is lent, and more bytes than an output of a text must have.
+// The longest table that is lent.
 pub fn marked_shorts() -> [u16; 12400]
     ensures { λ r. ⌜ r ≡ replicate shortPlaces shortMark ⌝ }
 {
     [7777; 12400]
 }
 
+// More bytes than an output of a text must have.
 pub fn marked_bytes() -> [u8; 47242]
     ensures { λ r. ⌜ r ≡ replicate bytePlaces byteMark ⌝ }
 {
@@ -98,7 +99,15 @@ pub fn print_runs(word: &[u8], bytes: &[u8], shorts: &[u16], numbers: &[u32]) {
 // The answer to writing a job, the text as it is, and what all bytes behind it hold: after a refusal that is
 // all there are.
 pub fn print_written(answer: Written, out: &[u8]) {
-    let count = print::written(answer);
-    print::word(opening(out, count));
-    print_runs(b"out", rest(out, count), &[], &[]);
+    match answer {
+        Written::Bytes(count) => {
+            print::line(b"BYTES ", count as u64);
+            print::word(opening(out, count));
+            print_runs(b"out", rest(out, count), &[], &[]);
+        }
+        Written::Refused(r) => {
+            print::refused(r);
+            print_runs(b"out", out, &[], &[]);
+        }
+    }
 }

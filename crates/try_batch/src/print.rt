@@ -7,9 +7,6 @@ use libc::STDOUT_FILENO;
 use path::Housed;
 use planner::Planned;
 use reader::Read;
-use writer::Written;
-ghost use mathlib.Core.Path.{_≡_};
-ghost use Rattle.try_batch.specs.Told.{bytesTold};
 
 pub fn word(bytes: &[u8]) {
     io::write_all(STDOUT_FILENO, bytes);
@@ -27,7 +24,7 @@ pub fn line(bytes: &[u8], n: u64) {
 }
 
 // Two numbers on a line.
-pub fn pair(a: u64, b: u64) {
+fn pair(a: u64, b: u64) {
     number(a);
     line(b" ", b);
 }
@@ -66,22 +63,6 @@ pub fn housed(answer: Housed) {
     match answer {
         Housed::Nodes(count) => line(b"PATH ", count as u64),
         Housed::Refused(r) => refused(r),
-    }
-}
-
-// How many bytes the text has, 0 where none is written.
-pub fn written(answer: Written) -> usize
-    ensures { λ r. ⌜ r ≡ bytesTold answer ⌝ }
-{
-    match answer {
-        Written::Bytes(count) => {
-            line(b"BYTES ", count as u64);
-            count
-        }
-        Written::Refused(r) => {
-            refused(r);
-            0
-        }
     }
 }
 

@@ -1,7 +1,9 @@
 // The questions that take records. The records' numbers are `fields`, in four columns of 80: the starts, the
 // goals, the distances, the ticks (crate `try_columns`). A job with records has them behind its dwell and no
-// moves, and how many of the 80 are lent is the payload's last number.
+// moves, and how many of the 80 are lent is the payload's last number. What a question left in the records is
+// printed where it may change them; those that get a shared list cannot.
 use hall::Carrier;
+use records::Record;
 use try_batch::marked::lend_bytes;
 use try_batch::marked::lend_shorts;
 use try_batch::marked::marked_bytes;
@@ -16,16 +18,13 @@ use try_batch::payload::long_at;
 use try_batch::payload::rest;
 use try_batch::payload::short_at;
 use try_batch::print;
+use try_columns::LENDABLE;
 use try_columns::made;
 use try_records::house_lent;
 use try_records::judge_lent;
 use try_records::plan_lent;
 use try_records::read_lent;
 use try_records::write_lent;
-
-fn print_records(fields: &[u32; 320]) {
-    print_runs(b"records", &[], &[], fields);
-}
 
 pub(crate) fn read(s: &[u8], text: &[u8]) {
     let mut lanes = marked_shorts();
@@ -44,17 +43,19 @@ pub(crate) fn read(s: &[u8], text: &[u8]) {
     ));
     print_runs(b"lanes", &[], &lanes, &[]);
     print_runs(b"closed", &[], &closed, &[]);
-    print_records(&fields);
+    print_runs(b"records", &[], &[], &fields);
     print_runs(b"order", &[], &order, &[]);
 }
 
-// Loads the records' numbers, of four bytes each.
-fn load_fields(s: &[u8], fields: &mut [u32; 320]) {
+// The records whose numbers stand at the front of a payload, of four bytes each.
+fn records_at(s: &[u8]) -> [Record; LENDABLE] {
+    let mut fields = [0u32; 320];
     let mut i: usize = 0;
     while i < 320 {
         fields[i] = long_at(s, 4 * i);
         i += 1;
     }
+    made(&fields)
 }
 
 // A question about a job with records.
@@ -68,19 +69,17 @@ pub(crate) fn ask(kind: u8, s: &[u8], job: &[u8]) {
     let mut lane_space = job_room();
     let mut closed_space = job_room();
     let mut order_space = job_room();
-    let mut fields = [0u32; 320];
     let count = short_at(s, 6) as usize;
-    load_fields(rest(behind, 4), &mut fields);
+    let records = records_at(rest(behind, 4));
     let lanes = loaded_list(network, &mut lane_space);
     let closed = loaded_list(behind_lanes, &mut closed_space);
     let order = loaded_list(places, &mut order_space);
     match kind {
-        b'p' => plan(s, nodes, lanes, closed, count, order, dwell, &mut fields),
-        b'o' => house(s, nodes, lanes, closed, count, order, dwell, &fields),
-        b'y' => write(s, nodes, lanes, closed, count, order, dwell, &fields),
-        _ => judge(s, nodes, lanes, closed, count, order, dwell, &fields),
+        b'p' => plan(s, nodes, lanes, closed, count, order, dwell, records),
+        b'o' => house(s, nodes, lanes, closed, count, order, dwell, records),
+        b'y' => write(s, nodes, lanes, closed, count, order, dwell, records),
+        _ => judge(s, nodes, lanes, closed, count, order, dwell, records),
     }
-    print_records(&fields);
 }
 
 fn plan(
@@ -91,10 +90,10 @@ fn plan(
     count: usize,
     order: &[u16],
     dwell: usize,
-    fields: &mut [u32; 320],
+    records: [Record; LENDABLE],
 ) {
     let mut table = marked_shorts();
-    let records = made(fields);
+    let mut fields = [7777u32; 320];
     print::planned(plan_lent(
         nodes,
         lanes,
@@ -104,9 +103,10 @@ fn plan(
         dwell,
         lend_shorts(&mut table, s, 0),
         records,
-        fields,
+        &mut fields,
     ));
     print_runs(b"table", &[], &table, &[]);
+    print_runs(b"records", &[], &[], &fields);
 }
 
 fn house(
@@ -117,7 +117,7 @@ fn house(
     count: usize,
     order: &[u16],
     dwell: usize,
-    fields: &[u32; 320],
+    records: [Record; LENDABLE],
 ) {
     let mut path = [7777u16; 1100];
     print::housed(house_lent(
@@ -129,7 +129,7 @@ fn house(
         dwell,
         Carrier(short_at(s, 2)),
         lend_shorts(&mut path, s, 0),
-        made(fields),
+        records,
     ));
     print_runs(b"path", &[], &path, &[]);
 }
@@ -142,7 +142,7 @@ fn judge(
     count: usize,
     order: &[u16],
     dwell: usize,
-    fields: &[u32; 320],
+    records: [Record; LENDABLE],
 ) {
     let mut room = list_room();
     print::judged(judge_lent(
@@ -154,7 +154,7 @@ fn judge(
         dwell,
         Carrier(short_at(s, 2)),
         loaded_list(rest(s, 8), &mut room),
-        made(fields),
+        records,
     ));
 }
 
@@ -166,7 +166,7 @@ fn write(
     count: usize,
     order: &[u16],
     dwell: usize,
-    fields: &[u32; 320],
+    records: [Record; LENDABLE],
 ) {
     let mut out = marked_bytes();
     let answer = write_lent(
@@ -177,7 +177,7 @@ fn write(
         order,
         dwell,
         lend_bytes(&mut out, s, 0),
-        made(fields),
+        records,
     );
     print_written(answer, &out);
 }

@@ -1,12 +1,14 @@
--- `try_cases::recorded::load_fields` is safe and ends. The loop's invariant: `i` is at most 320. The measure is
--- what is left of 320. Assumes nothing.
+-- `try_cases::recorded::records_at` is safe and ends. The loop's invariant: `i` is at most 320, and the numbers
+-- are as many as they were. The measure is what is left of 320. Assumes nothing.
 use borrow.Author.Needs.{needs}
+use mathlib.Core.Path.{_≡_}
 use Prim.Native.Nat.{_≤_, _-_}
-use Rattle.try_cases.proofs.recorded.load_fields.Statement.{statement}
-use Rattle.try_cases.proofs.recorded.load_fields.Tie as tie
+use lib.ListN.{length}
+use Rattle.try_cases.proofs.recorded.records_at.Statement.{statement}
+use Rattle.try_cases.proofs.recorded.records_at.Tie as tie
 
 abbrev Inv-loop : tie.InvT-loop
-Inv-loop s fields₀ i₀ fields i = i ≤ 320
+Inv-loop s fields₀ i₀ fields i = (i ≤ 320) × (length fields ≡ 320)
 
 abbrev μ-loop : tie.MeasureT-loop
 μ-loop s fields₀ i₀ fields i = 320 - i
@@ -23,8 +25,8 @@ long-at-requires c κs = search needs
 mul-fields : tie.Need-mul-fields Inv-loop μ-loop
 mul-fields c = search needs
 
-element-write-fields : tie.Need-element-write-fields Inv-loop μ-loop
-element-write-fields c = search needs
+array-write-fields : tie.Need-array-write-fields Inv-loop μ-loop
+array-write-fields c = search needs
 
 add-i : tie.Need-add-i Inv-loop μ-loop
 add-i c = search needs
@@ -35,11 +37,17 @@ loop-less c = search needs
 loop-again : tie.Need-loop-again Inv-loop μ-loop
 loop-again c = search needs
 
+slice-aggregate-made : tie.Need-slice-aggregate-made Inv-loop μ-loop
+slice-aggregate-made c = search needs
+
+made-requires : tie.Need-made-requires Inv-loop μ-loop
+made-requires c κs = search needs
+
 returns : tie.Need-returns Inv-loop μ-loop
 returns c = search needs
 
-pub load-fields-spec : {M : Type 1} → statement M
-load-fields-spec =
+pub records-at-spec : {M : Type 1} → statement M
+records-at-spec =
     tie.close
     (tie.spec
     Inv-loop
@@ -48,8 +56,10 @@ load-fields-spec =
     mul-long-at
     long-at-requires
     mul-fields
-    element-write-fields
+    array-write-fields
     add-i
     loop-less
     loop-again
+    slice-aggregate-made
+    made-requires
     returns)
