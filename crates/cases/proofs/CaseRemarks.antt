@@ -82,7 +82,7 @@ on-the-way n e h at = record {
   gone = n;
   stood = 0;
   time = omega arith;
-  on-floor = h;
+  present = h;
   waits-at-goal = inl refl;
   within-dwell = omega arith;
   node = at;
@@ -101,7 +101,7 @@ P4-would-cross = record {
 }
 
 pub P4-would-not-meet : ¬ Meet 0 there 0 back 0
-P4-would-not-meet m = all? (λ k. not? (eq? (getD there k 0) (getD back k 0))) 4 .sound tt (m .first .gone) (m .first .on-floor) (m .first .node ∙ sym (m .second .node) ∙ ap (λ k. getD back k 0) same)
+P4-would-not-meet m = all? (λ k. not? (eq? (getD there k 0) (getD back k 0))) 4 .sound tt (m .first .gone) (m .first .present) (m .first .node ∙ sym (m .second .node) ∙ ap (λ k. getD back k 0) same)
   where
     same : m .second .gone ≡ m .first .gone
     same = omega (arith, m .first .time, m .second .time, m .first .within-dwell, m .second .within-dwell)

@@ -17,7 +17,7 @@ use Rattle.hall.specs.Floor.{Network}
 use Rattle.hall.specs.Job.{Numbers, carriers, start, goal}
 use Rattle.hall.specs.Stages.{Stage, Question, FirstOf, here, later, FirstAt, FirstIn, FirstStage, First, None}
 use Rattle.hall.specs.Said.{refused}
-use Rattle.hall.specs.Refusals.{ClosedFault, OffFloor-at, ClosedEnd-at}
+use Rattle.hall.specs.Refusals.{ClosedFault, NoNode-at, ClosedEnd-at}
 use Rattle.hall.specs.Questions.{shortTable, closedChecks, eachClosed, moveChecks, eachMove, eachOrderPlace}
 use Rattle.hall.specs.Questions.{eachWalk, planning, writing}
 use Rattle.hall.proofs.Compose.{first-split, first-after, first-here}
@@ -81,14 +81,14 @@ module _ (j : Numbers) (p : ℕ) where
 
   end-in-stage : FirstAt (eachMove nodes closed (j .moves)) 13 p →
       (p < carriers j)
-      × (¬ OffFloor-at nodes (start j p) (goal j p))
+      × (¬ NoNode-at nodes (start j p) (goal j p))
       × (start j p ≢ goal j p)
       × ClosedEnd-at closed (start j p) (goal j p)
   end-in-stage (here x) = absurd (let y : _≡_ {A = ℕ} 13 4 = x .0 in omega arith)
-  end-in-stage (later on-floor (here x)) = absurd (let y : _≡_ {A = ℕ} 13 5 = x .0 in omega arith)
-  end-in-stage (later on-floor (later differ (here x))) =
-      (x .1 .0, (λ h. on-floor (x .1 .0, h)), (λ h. differ (x .1 .0, h)), x .1 .1)
-  end-in-stage (later on-floor (later differ (later k x))) = absurd x
+  end-in-stage (later numbered (here x)) = absurd (let y : _≡_ {A = ℕ} 13 5 = x .0 in omega arith)
+  end-in-stage (later numbered (later differ (here x))) =
+      (x .1 .0, (λ h. numbered (x .1 .0, h)), (λ h. differ (x .1 .0, h)), x .1 .1)
+  end-in-stage (later numbered (later differ (later k x))) = absurd x
 
   end-at : None (beforeMoves j) → FirstIn (eachMove nodes closed (j .moves)) 13 p → ClosedEndAt j p
   end-at none x =
@@ -96,7 +96,7 @@ module _ (j : Numbers) (p : ℕ) where
       record {
         none-before = none;
         is-move = y .0;
-        on-floor = y .1;
+        numbered = y .1;
         ends-differ = y .2;
         closed-end = y .3;
         lowest = λ i l.
@@ -108,7 +108,7 @@ module _ (j : Numbers) (p : ℕ) where
   end-first : ClosedEndAt j p → FirstIn (eachMove nodes closed (j .moves)) 13 p
   end-first a =
       each-first (moveChecks nodes closed (j .moves)) (a .is-move) (record { clear = a .lowest })
-      (later (a .on-floor) (later (a .ends-differ) (here (refl, a .closed-end))))
+      (later (a .numbered) (later (a .ends-differ) (here (refl, a .closed-end))))
 
   -- behind 9, and before whatever gives neither
   module _ (Short : Type 0) (rest : Question) where

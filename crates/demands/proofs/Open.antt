@@ -53,7 +53,7 @@ module _ (N : Network) (s g : ℕ) (path : List ℕ) (shortest : ShortestPath (f
   nodes-open k h = shortest .is-path .nodes k (omega (arith, shortest .is-path .size))
 
   pub stands-open : (w t x v : ℕ) → At w path t x v → Open N v
-  stands-open w t x v a = subst (Open N) (a .node) (nodes-open (a .gone) (a .on-floor))
+  stands-open w t x v a = subst (Open N) (a .node) (nodes-open (a .gone) (a .present))
 
 module _ (N N′ : Network) (records records′ : List Record) (order order′ : List ℕ) (dwell : ℕ)
     (table table′ : List ℕ) (cost : ℕ)

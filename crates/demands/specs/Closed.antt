@@ -11,7 +11,7 @@ use Prim.Native.Nat.{ℕ, _<_}
 use lib.ListN.{length}
 use Rattle.hall.specs.Job.{Numbers, carriers, start, goal}
 use Rattle.hall.specs.Stages.{Question, ClearAt, None}
-use Rattle.hall.specs.Refusals.{ClosedFault, OffFloor-at, ClosedEnd-at}
+use Rattle.hall.specs.Refusals.{ClosedFault, NoNode-at, ClosedEnd-at}
 use Rattle.hall.specs.Questions.{moveChecks, eachLane, eachClosed, counts}
 
 abbrev pub beforeClosed : Numbers → Question
@@ -32,7 +32,7 @@ pub record ClosedEntryAt (j : Numbers) (p : ℕ) : Type 0 where
 pub record ClosedEndAt (j : Numbers) (p : ℕ) : Type 0 where
   pub none-before : None (beforeMoves j)
   pub is-move : p < carriers j
-  pub on-floor : ¬ OffFloor-at (j .network .nodes) (start j p) (goal j p)
+  pub numbered : ¬ NoNode-at (j .network .nodes) (start j p) (goal j p)
   pub ends-differ : start j p ≢ goal j p
   pub closed-end : ClosedEnd-at (j .network .closed) (start j p) (goal j p)
   pub lowest : (i : ℕ) → i < p → ClearAt (moveChecks (j .network .nodes) (j .network .closed) (j .moves)) i

@@ -20,7 +20,7 @@ use lib.ListN.{getD}
 use Rattle.hall.specs.Floor.{lower, higher}
 use Rattle.hall.specs.Stages.{Stage, here, later, FirstAt}
 use Rattle.hall.specs.Refusals.{Exceeds, by-lower, by-higher, LaneFault, no-node, not-below, not-rising}
-use Rattle.hall.specs.Refusals.{ClosedFault, no-such-node, not-higher, OffFloor-at, ClosedEnd-at}
+use Rattle.hall.specs.Refusals.{ClosedFault, no-such-node, not-higher, NoNode-at, ClosedEnd-at}
 use Rattle.hall.specs.Refusals.{BadOrder-at, no-carrier, stands-earlier}
 use Rattle.hall.proofs.Stages.{DecidedAt}
 use Rattle.hall.proofs.Test.{dec}
@@ -101,9 +101,9 @@ module _ (l m : List ℕ) (k : ℕ) where
     lane-same n (not-below x) = not-below (rw (← low k (omega arith), ← high k (omega arith)) x)
     lane-same n (not-rising {j} e x) = not-rising {j = j} e (λ y. x (exceeds-same j (omega arith) y))
 
-    off-same : (n : ℕ) → OffFloor-at n (lower l k) (higher l k) → OffFloor-at n (lower m k) (higher m k)
-    off-same n (inl x) = inl (rw (← low k (omega arith)) x)
-    off-same n (inr x) = inr (rw (← high k (omega arith)) x)
+    no-node-same : (n : ℕ) → NoNode-at n (lower l k) (higher l k) → NoNode-at n (lower m k) (higher m k)
+    no-node-same n (inl x) = inl (rw (← low k (omega arith)) x)
+    no-node-same n (inr x) = inr (rw (← high k (omega arith)) x)
 
     ends-same : lower l k ≡ higher l k → lower m k ≡ higher m k
     ends-same e = sym (low k (omega arith)) ∙ e ∙ high k (omega arith)
@@ -143,7 +143,7 @@ pub carriers-steady : Steady carriersSection
 carriers-steady read l m k a =
     let b = agree-back l m a in (
       refl,
-      (λ x. off-same l m k a _ x, λ x. off-same m l k b _ x),
+      (λ x. no-node-same l m k a _ x, λ x. no-node-same m l k b _ x),
       (
         refl,
         (λ x. ends-same l m k a x, λ x. ends-same m l k b x),

@@ -150,8 +150,8 @@ module _ (j : Numbers) (sound : None (checksQuestion j)) where
 
   pub small-moves : ByTwos (j .moves) → Small (j .moves)
   small-moves paired = pairs-small (j .moves) paired (λ i b. (
-    node-small (j .network .nodes) (startIn (j .moves) i) (nodes-fit .1) (λ y. facts .off-floor i b (inl y)),
-    node-small (j .network .nodes) (goalIn (j .moves) i) (nodes-fit .1) (λ y. facts .off-floor i b (inr y)),
+    node-small (j .network .nodes) (startIn (j .moves) i) (nodes-fit .1) (λ y. facts .no-node i b (inl y)),
+    node-small (j .network .nodes) (goalIn (j .moves) i) (nodes-fit .1) (λ y. facts .no-node i b (inr y)),
   ))
 
   small-order : Small (j .order)
@@ -175,7 +175,7 @@ module _ (j : Numbers) (sound : None (checksQuestion j)) where
         let counts : countOf CARRIERS (read ++ (content CARRIERS (job.carriers j) (pairs (j .moves)) ∷ []))
         ≡ job.carriers j = none (content CARRIERS (job.carriers j) (pairs (j .moves))) in
         carriers-sound read _ _ (j .moves) paired (small-moves paired) (carriers-limit j sound)
-        (λ i b. rw (n, c) (facts .off-floor i b, (facts .same-ends i b, (facts .closed-end i b, tt))))
+        (λ i b. rw (n, c) (facts .no-node i b, (facts .same-ends i b, (facts .closed-end i b, tt))))
         (order-sound _ _ _ (j .order) small-order (order-length j sound ∙ sym counts)
         (omega (arith, order-length j sound, carriers-limit j sound))
         (λ p b. rw counts (facts .bad-order p b, tt)) (dwell-sound _ (j .dwell) (dwell-within j sound)))

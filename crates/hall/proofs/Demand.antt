@@ -58,7 +58,7 @@ module _ {F : Floor} {s g d : ℕ} {l : List ℕ} (p : PathOf F s g d l) (w t : 
       (omega (arith, h .time), omega (arith, h .time, h .within-dwell))
     where
       inside : h .gone ≤ d
-      inside = omega (arith, h .on-floor, p .size)
+      inside = omega (arith, h .present, p .size)
 
       left : Dist F g g (d - h .gone)
       left = rw (h .node) at (goal-distance p short (h .gone) inside)
@@ -68,15 +68,15 @@ module _ {F : Floor} {s g d : ℕ} {l : List ℕ} (p : PathOf F s g d l) (w t : 
     gone = d;
     stood = x - (t + d);
     time = omega arith;
-    on-floor = omega (arith, p .size);
+    present = omega (arith, p .size);
     waits-at-goal = inr (sym (p .size));
     within-dwell = omega arith;
     node = p .ends;
   }
 
   -- on its way until its goal tick, at its goal from then on
-  on-floor-until : (x : ℕ) → t ≤ x → x ≤ t + d + w → (v : ℕ) × At w l t x v
-  on-floor-until x a b = cases (decLt x (t + d))
+  present-until : (x : ℕ) → t ≤ x → x ≤ t + d + w → (v : ℕ) × At w l t x v
+  present-until x a b = cases (decLt x (t + d))
     where
       cases : Dec (x < t + d) → (v : ℕ) × At w l t x v
       cases (no h) = (g, goal-after x (omega arith) b)
@@ -86,15 +86,15 @@ module _ {F : Floor} {s g d : ℕ} {l : List ℕ} (p : PathOf F s g d l) (w t : 
           gone = x - t;
           stood = 0;
           time = omega arith;
-          on-floor = omega (arith, p .size);
+          present = omega (arith, p .size);
           waits-at-goal = inl refl;
           within-dwell = omega arith;
           node = refl;
         },
       )
 
-  off-floor-else : (x v : ℕ) → At w l t x v → (t ≤ x) × (x ≤ t + d + w)
-  off-floor-else x v h = (omega (arith, h .time), omega (arith, h .time, h .on-floor, h .within-dwell, p .size))
+  absent-else : (x v : ℕ) → At w l t x v → (t ≤ x) × (x ≤ t + d + w)
+  absent-else x v h = (omega (arith, h .time), omega (arith, h .time, h .present, h .within-dwell, p .size))
 
 -- ---- the distances of two carriers are true
 
@@ -156,8 +156,8 @@ module _ {F : Floor} (both-ways : Symmetric F) (w k : ℕ) (start goal : ℕ →
     distances = own-distance;
     at-goal = λ i h. goal-after (own-path i h) w (tick i);
     only-then = λ i h. goal-only-then (own-path i h) w (tick i) (own-distance i h);
-    present = λ i h. on-floor-until (own-path i h) w (tick i);
-    absent = λ i h. off-floor-else (own-path i h) w (tick i);
+    present = λ i h. present-until (own-path i h) w (tick i);
+    absent = λ i h. absent-else (own-path i h) w (tick i);
     first-at-0 = first-at-zero w t order tick s;
     bound = tick-bound w t order tick s;
   }

@@ -95,7 +95,7 @@ module _ {l : List ℕ} {t : ℕ} where
   plain-at h = record {
     gone = h .gone;
     time = omega (arith, h .time, h .within-dwell);
-    on-floor = h .on-floor;
+    present = h .present;
     node = h .node;
   }
 
@@ -104,7 +104,7 @@ module _ {l : List ℕ} {t : ℕ} where
     gone = h .gone;
     stood = 0;
     time = omega (arith, h .time);
-    on-floor = h .on-floor;
+    present = h .present;
     waits-at-goal = inl refl;
     within-dwell = zero-le;
     node = h .node;

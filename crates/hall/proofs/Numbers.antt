@@ -12,7 +12,7 @@ use Prim.Native.Nat.{ℕ}
 use native.Mathlib.Omega.{arith}
 use lib.ListN.{getD}
 use Rattle.hall.specs.declared.Fault.{Fault}
-use Rattle.hall.specs.declared.Fault.the-variants.{Malformed, BadCount, BadLane, OffFloor, SameEnds}
+use Rattle.hall.specs.declared.Fault.the-variants.{Malformed, BadCount, BadLane, NoNode, SameEnds}
 use Rattle.hall.specs.declared.Fault.the-variants.{BadOrder, Unreachable, ShortTable, NoCarrier}
 use Rattle.hall.specs.declared.Fault.the-variants.{NotShortest, BadClosed, ClosedEnd}
 use Rattle.hall.specs.declared.Refusal.{Refusal}
@@ -26,7 +26,7 @@ listed =
     ∷ Malformed
     ∷ BadCount
     ∷ BadLane
-    ∷ OffFloor
+    ∷ NoNode
     ∷ SameEnds
     -- 6, which none has
     ∷ Malformed
@@ -46,7 +46,7 @@ back : (f : Fault) → faultOf (numberOf f) ≡ f
 back Malformed = refl
 back BadCount = refl
 back BadLane = refl
-back OffFloor = refl
+back NoNode = refl
 back SameEnds = refl
 back BadOrder = refl
 back Unreachable = refl

@@ -47,8 +47,8 @@ steps {l = l} h k moved = cases (h .waits-at-goal) (k .waits-at-goal)
       where
         rest : Dec (k .stood ≡ 0) → Steps h k
         rest (yes c) = record { stands-not = a; goes-on = omega (arith, h .time, k .time) }
-        rest (no c) = still (omega (arith, h .time, k .time, h .on-floor))
-    cases (inr a) (inl b) = still (omega (arith, h .time, k .time, k .on-floor))
+        rest (no c) = still (omega (arith, h .time, k .time, h .present))
+    cases (inr a) (inl b) = still (omega (arith, h .time, k .time, k .present))
     cases (inr a) (inr b) = still (omega arith)
 
 -- ---- two carriers
@@ -102,7 +102,7 @@ module _ {F : Floor} (both-ways : Symmetric F) {si gi sj gj : ℕ} {p : Pair} (s
         inside f f′ (inr x) = omega arith
 
     on-path : {t x v : ℕ} {l : List ℕ} {d : ℕ} (h : At w l t x v) → length l ≡ d + 1 → h .gone ≤ d
-    on-path h e = omega (arith, h .on-floor)
+    on-path h e = omega (arith, h .present)
 
     meet-forbidden : Meet w path ti path′ tj → Forbidden⁺ w p ti tj
     meet-forbidden m =

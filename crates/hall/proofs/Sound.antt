@@ -16,7 +16,7 @@ use Rattle.hall.specs.Limits.{nodeLimit, laneLimit, carrierLimit, dwellL
 use Rattle.hall.specs.Floor.{NoWalk, Network, laneCount, floor}
 use Rattle.hall.specs.Job.{Numbers, carriers, start, goal, at-place, EndsOn}
 use Rattle.hall.specs.Stages.{FirstOf, here, later, FirstAt, FirstStage, First, None}
-use Rattle.hall.specs.Refusals.{LaneFault, ClosedFault, OffFloor-at, ClosedEnd-at}
+use Rattle.hall.specs.Refusals.{LaneFault, ClosedFault, NoNode-at, ClosedEnd-at}
 use Rattle.hall.specs.Refusals.{BadOrder-at, no-carrier, stands-earlier}
 use Rattle.hall.specs.Questions.{laneChecks, closedChecks, moveChecks, orderChecks, walkChecks, eachWalk}
 use Rattle.hall.specs.Questions.{networkQuestion, checksQuestion, jobQuestion}
@@ -60,7 +60,7 @@ pub record Denied (j : Numbers) : Type 0 where
   pub carriers-count : ¬ (carrierLimit < carriers j)
   pub order-count : ¬ (length (j .order) ≢ carriers j)
   pub dwell-count : ¬ (dwellLimit < j .dwell)
-  pub off-floor : (i : ℕ) → i < carriers j → ¬ OffFloor-at (j .network .nodes) (start j i) (goal j i)
+  pub no-node : (i : ℕ) → i < carriers j → ¬ NoNode-at (j .network .nodes) (start j i) (goal j i)
   pub same-ends : (i : ℕ) → i < carriers j → ¬ (start j i ≡ goal j i)
   pub closed-end : (i : ℕ) → i < carriers j → ¬ ClosedEnd-at (j .network .closed) (start j i) (goal j i)
   pub bad-order : (p : ℕ) → p < length (j .order) → ¬ BadOrder-at (carriers j) (j .order) p
@@ -88,7 +88,7 @@ denied-checks j none =
       carriers-count = few .0;
       order-count = order .0;
       dwell-count = dwell .0;
-      off-floor = λ i l. move .0 .clear i l .0;
+      no-node = λ i l. move .0 .clear i l .0;
       same-ends = λ i l. move .0 .clear i l .1 .0;
       closed-end = λ i l. move .0 .clear i l .1 .1 .0;
       bad-order = λ p l. entry .0 .clear p l .0;
@@ -164,11 +164,11 @@ module _ (j : Numbers) (sound : None (checksQuestion j)) where
   pub ends-on : EndsOn (floor (j .network)) (j .moves)
   ends-on = record {
     starts = λ i l. record {
-      numbered = not-above (j .network .nodes) (suc (start j i)) (λ x. facts .off-floor i l (inl (omega arith)));
+      numbered = not-above (j .network .nodes) (suc (start j i)) (λ x. facts .no-node i l (inl (omega arith)));
       not-closed = λ c. facts .closed-end i l (inl c);
     };
     goals = λ i l. record {
-      numbered = not-above (j .network .nodes) (suc (goal j i)) (λ x. facts .off-floor i l (inr (omega arith)));
+      numbered = not-above (j .network .nodes) (suc (goal j i)) (λ x. facts .no-node i l (inr (omega arith)));
       not-closed = λ c. facts .closed-end i l (inr c);
     };
   }

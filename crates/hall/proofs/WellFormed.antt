@@ -15,7 +15,7 @@ use Rattle.hall.specs.Limits.{nodeLimit, laneLimit}
 use Rattle.hall.specs.Floor.{Network, laneCount, lower, higher, Lane}
 use Rattle.hall.specs.Job.{Numbers, carriers, start, goal}
 use Rattle.hall.specs.Refusals.{Exceeds, by-lower, by-higher, LaneFault, no-node, not-below, not-rising}
-use Rattle.hall.specs.Refusals.{ClosedFault, no-such-node, not-higher, OffFloor-at, ClosedEnd-at}
+use Rattle.hall.specs.Refusals.{ClosedFault, no-such-node, not-higher, NoNode-at, ClosedEnd-at}
 use Rattle.hall.specs.Refusals.{BadOrder-at, no-carrier, stands-earlier}
 use Rattle.hall.specs.Stages.{None}
 use Rattle.hall.specs.Questions.{laneChecks, closedChecks, moveChecks, orderChecks, checksQuestion}
@@ -137,9 +137,9 @@ module _ (N : Network) (w : WellFormedNetwork N) where
   each-closed-passed = record { clear = λ k l. (no-closed-fault k l, tt) }
 
 module _ (j : Numbers) (w : WellFormed j) where
-  no-off-floor : (i : ℕ) → i < carriers j → ¬ OffFloor-at (j .network .nodes) (start j i) (goal j i)
-  no-off-floor i h (inl x) = omega (arith, w .ends-on .starts i h .numbered)
-  no-off-floor i h (inr x) = omega (arith, w .ends-on .goals i h .numbered)
+  ends-are-nodes : (i : ℕ) → i < carriers j → ¬ NoNode-at (j .network .nodes) (start j i) (goal j i)
+  ends-are-nodes i h (inl x) = omega (arith, w .ends-on .starts i h .numbered)
+  ends-are-nodes i h (inr x) = omega (arith, w .ends-on .goals i h .numbered)
 
   no-closed-end : (i : ℕ) → i < carriers j → ¬ ClosedEnd-at (j .network .closed) (start j i) (goal j i)
   no-closed-end i h (inl x) = w .ends-on .starts i h .not-closed x
@@ -164,7 +164,7 @@ module _ (j : Numbers) (w : WellFormed j) where
       none-at-all)))))))))
     where
       moves-passed : Passed (moveChecks (j .network .nodes) (j .network .closed) (j .moves)) (carriers j)
-      moves-passed = record { clear = λ i l. (no-off-floor i l, (w .ends-differ i l, (no-closed-end i l, tt))) }
+      moves-passed = record { clear = λ i l. (ends-are-nodes i l, (w .ends-differ i l, (no-closed-end i l, tt))) }
 
       order-passed : Passed (orderChecks (carriers j) (j .order)) (length (j .order))
       order-passed = record { clear = λ p l. (no-bad-order p l, tt) }

@@ -43,7 +43,7 @@ pub record PlainStartTicks (t : Tables) (order : List ℕ) (tick : ℕ → ℕ) 
 pub record PlainAt (path : List ℕ) (t x v : ℕ) : Type 0 where
   pub gone : ℕ
   pub time : t + gone ≡ x
-  pub on-floor : gone < length path
+  pub present : gone < length path
   pub node : getD path gone 0 ≡ v
 
 pub record PlainMeet (path : List ℕ) (t : ℕ) (path′ : List ℕ) (t′ : ℕ) : Type 0 where

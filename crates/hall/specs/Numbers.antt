@@ -4,7 +4,7 @@
 --     numberOf    the number under which a fault is listed
 use Prim.Native.Nat.{ℕ}
 use Rattle.hall.specs.declared.Fault.{Fault}
-use Rattle.hall.specs.declared.Fault.the-variants.{Malformed, BadCount, BadLane, OffFloor, SameEnds}
+use Rattle.hall.specs.declared.Fault.the-variants.{Malformed, BadCount, BadLane, NoNode, SameEnds}
 use Rattle.hall.specs.declared.Fault.the-variants.{BadOrder, Unreachable, ShortTable, NoCarrier}
 use Rattle.hall.specs.declared.Fault.the-variants.{NotShortest, BadClosed, ClosedEnd}
 
@@ -12,7 +12,7 @@ abbrev pub numberOf : Fault → ℕ
 numberOf Malformed = 1
 numberOf BadCount = 2
 numberOf BadLane = 3
-numberOf OffFloor = 4
+numberOf NoNode = 4
 numberOf SameEnds = 5
 numberOf BadOrder = 7
 numberOf Unreachable = 8

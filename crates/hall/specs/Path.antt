@@ -40,7 +40,7 @@ pub record At (w : ℕ) (path : List ℕ) (t x v : ℕ) : Type 0 where
   pub gone : ℕ
   pub stood : ℕ
   pub time : t + gone + stood ≡ x
-  pub on-floor : gone < length path
+  pub present : gone < length path
   -- it stands still at its goal only, and no longer than the dwell
   pub waits-at-goal : (stood ≡ 0) ⊎ (gone + 1 ≡ length path)
   pub within-dwell : stood ≤ w

@@ -34,14 +34,14 @@ use mathlib.Core.Logic.{_⊎_, _≢_}
 use mathlib.Core.List.{List, [], _∷_, _++_}
 use Prim.Native.Nat.{ℕ, _/_, _%_, _≤_, _<_}
 use lib.ListN.{length}
-use Rattle.hall.specs.declared.Fault.the-variants.{BadCount, BadLane, OffFloor, SameEnds}
+use Rattle.hall.specs.declared.Fault.the-variants.{BadCount, BadLane, NoNode, SameEnds}
 use Rattle.hall.specs.declared.Fault.the-variants.{BadOrder, Unreachable, ShortTable, NoCarrier}
 use Rattle.hall.specs.declared.Fault.the-variants.{NotShortest, BadClosed, ClosedEnd}
 use Rattle.hall.specs.Limits.{nodeLimit, laneLimit, carrierLimit, dwellLimit}
 use Rattle.hall.specs.Floor.{NoWalk, Network, laneCount, floor}
 use Rattle.hall.specs.Job.{Numbers, carriers, moveCount, startIn, goalIn}
 use Rattle.hall.specs.Stages.{_when_, Stage, Question, asked, only-at, at-each}
-use Rattle.hall.specs.Refusals.{LaneFault, ClosedFault, OffFloor-at, ClosedEnd-at, BadOrder-at}
+use Rattle.hall.specs.Refusals.{LaneFault, ClosedFault, NoNode-at, ClosedEnd-at, BadOrder-at}
 
 -- ---- the stages
 
@@ -77,7 +77,7 @@ eachClosed nodes closed = at-each (length closed) (closedChecks nodes closed)
 
 abbrev pub ends : (nodes : ℕ) (closed : List ℕ) (start goal : ℕ → ℕ) → Stage
 ends nodes closed start goal =
-    OffFloor when (λ i. OffFloor-at nodes (start i) (goal i))
+    NoNode when (λ i. NoNode-at nodes (start i) (goal i))
     ∷ SameEnds when (λ i. start i ≡ goal i)
     ∷ ClosedEnd when (λ i. ClosedEnd-at closed (start i) (goal i))
     ∷ []

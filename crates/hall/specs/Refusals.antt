@@ -5,7 +5,7 @@
 --     LaneFault       3, at lane k: a number of it is no node, its higher node stands first or one node
 --                     twice, or it does not exceed its predecessor
 --     ClosedFault     12, at entry k of the closed nodes: it is no node, or does not exceed its predecessor
---     OffFloor-at     4, of one move: its start or its goal is no node
+--     NoNode-at       4, of one move: its start or its goal is no node
 --     ClosedEnd-at    13, of one move: its start or its goal is closed
 --     BadOrder-at     7, at place p: it names a carrier that is not there, or one that an earlier place names
 use mathlib.Core.Path.{_≡_}
@@ -28,8 +28,8 @@ pub data ClosedFault (nodes : ℕ) (closed : List ℕ) (k : ℕ) : Type 0 where
   no-such-node : nodes ≤ getD closed k 0 → ClosedFault nodes closed k
   not-higher : (j : ℕ) → j + 1 ≡ k → getD closed k 0 ≤ getD closed j 0 → ClosedFault nodes closed k
 
-abbrev pub OffFloor-at : (nodes s g : ℕ) → Type 0
-OffFloor-at nodes s g = (nodes ≤ s) ⊎ (nodes ≤ g)
+abbrev pub NoNode-at : (nodes s g : ℕ) → Type 0
+NoNode-at nodes s g = (nodes ≤ s) ⊎ (nodes ≤ g)
 
 abbrev pub ClosedEnd-at : (closed : List ℕ) (s g : ℕ) → Type 0
 ClosedEnd-at closed s g = Closed closed s ⊎ Closed closed g

@@ -91,7 +91,7 @@ pub(crate) fn number_at(list: &[u16], at: usize) -> u16
 fn check_ends(nodes: usize, closed: &[u16], start: u16, goal: u16, i: usize) -> Checked
     ensures { λ r. ⌜ Judged (only-at i (ends nodes (now (closed .entry)) (λ p. start) (λ p. goal))) r ⌝ }
 {
-    let mut fault = Fault::OffFloor;
+    let mut fault = Fault::NoNode;
     if start as usize >= nodes {
         return refused(fault, i);
     }

@@ -45,10 +45,10 @@ module _ {N : Network} {s g : ℕ} {row : List ℕ} (down : Downhill N s g row) 
   row-distance v l h = dist-symmetric (lanes-symmetric N) (true-distance (down .distances v l) h)
 
   pub start-distance : Dist (floor N) s g (getD row s 0)
-  start-distance = row-distance s (down .on-floor) (down .reached)
+  start-distance = row-distance s (down .numbered) (down .reached)
 
   pub start-small : getD row s 0 ≤ 1023
-  start-small = distance-small (down .distances s (down .on-floor)) (down .reached)
+  start-small = distance-small (down .distances s (down .numbered)) (down .reached)
 
   module _ {u m : ℕ} (small : m ≤ 1023) where
     -- a neighbour with m lanes to go is in the row as such
@@ -56,12 +56,12 @@ module _ {N : Network} {s g : ℕ} {row : List ℕ} (down : Downhill N s g row) 
     next-of v l h =
         let on : v < N .nodes = begins-on-node (h .walk) .numbered in
         let back = distance small (dist-symmetric (lanes-symmetric N) h) in
-        record { on-floor = on; lane = l; at-distance = distance-unique (down .distances v on) back }
+        record { numbered = on; lane = l; at-distance = distance-unique (down .distances v on) back }
 
     pub next-distance : {v : ℕ} → Next (N .nodes) (N .lanes) row u m v → Dist (floor N) v g m
     next-distance {v} n =
         subst (λ (d : ℕ). Dist (floor N) v g d) (n .at-distance)
-        (row-distance v (n .on-floor) (λ e. omega (arith, n .at-distance)))
+        (row-distance v (n .numbered) (λ e. omega (arith, n .at-distance)))
 
     -- what `next_node` answers is such a neighbour
     pub next-found : {v : ℕ} → Dist (floor N) u g (suc m) → LowestNext (N .nodes) (N .lanes) row u m v
@@ -73,4 +73,4 @@ module _ {N : Network} {s g : ℕ} {row : List ℕ} (down : Downhill N s g row) 
         cases (inl e) =
             let b = first-lane h in
             let x = next-of (b .0) (b .1) (b .2) in
-            absurd (let y : ⊥ = omega (arith, n .lowest (b .0) x, x .on-floor, down .few) in y)
+            absurd (let y : ⊥ = omega (arith, n .lowest (b .0) x, x .numbered, down .few) in y)

@@ -149,7 +149,7 @@ module _ (N : Network) (s g : ℕ) (list : List ℕ) where
     -- a node with a walk to the goal is open
     stands-on-open : AllOnWay (N .nodes) row list → OnOpen
     stands-on-open stands k l =
-        begins-on-node (row-distance down (getD list k 0) (stands k l .on-floor) (stands k l .reached) .walk)
+        begins-on-node (row-distance down (getD list k 0) (stands k l .numbered) (stands k l .reached) .walk)
 
     -- and a node of a path has such a walk, the rest of the path
     path-stands : {d : ℕ} → PathOf (floor N) s g d list → AllOnWay (N .nodes) row list
@@ -157,7 +157,7 @@ module _ (N : Network) (s g : ℕ) (list : List ℕ) where
         let on = path-open p k l .numbered in
         let rest = to-goal p k (omega (arith, p .size)) in
         record {
-          on-floor = on;
+          numbered = on;
           reached = λ e.
               marked-none (down .distances (getD list k 0) on) e (d - k) (reverse (lanes-symmetric N) rest);
         }

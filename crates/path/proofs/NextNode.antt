@@ -51,7 +51,7 @@ module _ {nodes : ℕ} {lanes row : List ℕ} {u a b wanted best r : ℕ} where
   still-next : (a ≡ u → Lane lanes u b) → (best ≡ noWalkMark) ⊎ Next nodes lanes row u wanted best
       → Nearer nodes row u a b wanted best r → (r ≡ noWalkMark) ⊎ Next nodes lanes row u wanted r
   still-next lane s (kept f e) = rw e s
-  still-next lane s (taken x l w h e) = inr (rw e (record { on-floor = l; lane = lane x; at-distance = w }))
+  still-next lane s (taken x l w h e) = inr (rw e (record { numbered = l; lane = lane x; at-distance = w }))
 
 -- ---- a lane in both directions
 
@@ -71,5 +71,5 @@ seeking-lane {nodes} {lanes} {row} {u} {wanted} {i} {best₁} {best₂} {best₃
     cases : (v : ℕ) → (n : Next nodes lanes row u wanted v) → LaneBefore lanes u v i (n .lane .k) → best₃ ≤ v
     cases v n (earlier l) = omega (arith, s .lowest v n l, never-rises x, never-rises y)
     cases v n (forth a b) =
-        omega (arith, never-rises y, b, not-above-end x a (rw b (n .on-floor)) (rw b (n .at-distance)))
-    cases v n (back a b) = omega (arith, a, not-above-end y b (rw a (n .on-floor)) (rw a (n .at-distance)))
+        omega (arith, never-rises y, b, not-above-end x a (rw b (n .numbered)) (rw b (n .at-distance)))
+    cases v n (back a b) = omega (arith, a, not-above-end y b (rw a (n .numbered)) (rw a (n .at-distance)))

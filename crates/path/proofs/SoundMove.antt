@@ -78,6 +78,6 @@ module _ (N : Network) (s g : ℕ) (sound : None (moveEnds N s g)) where
           few = few-nodes;
           wide = omega (arith, few-nodes, filled .size);
           distances = filled .holds;
-          on-floor = start-node;
+          numbered = start-node;
           reached = h;
         }

@@ -30,7 +30,7 @@ pub record Downhill (N : Network) (s g : ℕ) (row : List ℕ) : Type 0 where
   pub few : N .nodes ≤ nodeLimit
   pub wide : N .nodes ≤ length row
   pub distances : (v : ℕ) → v < N .nodes → DistanceIs (floor N) g v (getD row v 0)
-  pub on-floor : s < N .nodes
+  pub numbered : s < N .nodes
   pub reached : getD row s 0 ≢ noWalkMark
 
 pub record MoveReached (N : Network) (s g : ℕ) (row : List ℕ) (r : Checked) : Type 0 where
@@ -38,7 +38,7 @@ pub record MoveReached (N : Network) (s g : ℕ) (row : List ℕ) (r : Checked) 
   pub downhill : r ≡ Sound → Downhill N s g row
 
 pub record Next (nodes : ℕ) (lanes row : List ℕ) (u wanted v : ℕ) : Type 0 where
-  pub on-floor : v < nodes
+  pub numbered : v < nodes
   pub lane : Lane lanes u v
   pub at-distance : getD row v 0 ≡ wanted
 
@@ -66,7 +66,7 @@ pub record Walks (lanes : List ℕ) (s g : ℕ) (list : List ℕ) : Type 0 where
   pub joins : (k : ℕ) → k + 1 < length list → Lane lanes (getD list k 0) (getD list (k + 1) 0)
 
 pub record OnWay (nodes : ℕ) (row : List ℕ) (v : ℕ) : Type 0 where
-  pub on-floor : v < nodes
+  pub numbered : v < nodes
   pub reached : getD row v 0 ≢ noWalkMark
 
 abbrev pub AllOnWay : (nodes : ℕ) (row list : List ℕ) → Type 0

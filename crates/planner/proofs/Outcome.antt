@@ -61,7 +61,7 @@ module _ (j : Numbers) (sound : None (checksQuestion j)) where
     few-nodes = nodes-limit j sound;
     few-carriers = carriers-limit j sound;
     whole-table = whole;
-    on-floor = end-below (j .network) (ends-on j sound);
+    numbered = end-below (j .network) (ends-on j sound);
   }
 
   module _ (l : Lent) (c : Cleared l) (table′ : List ℕ) where

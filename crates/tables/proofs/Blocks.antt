@@ -29,13 +29,13 @@ use Rattle.tables.specs.Blocks.{RowCopied, Elsewhere, CarrierFilled}
 
 -- for a caller whose moves have open ends
 pub end-below : (N : Network) {moves : List ℕ} → EndsOn (floor N) moves → EachBelow moves (N .nodes)
-end-below N {moves} on-floor x h = cases (ℕ-discrete (x % 2) 0)
+end-below N {moves} ends-open x h = cases (ℕ-discrete (x % 2) 0)
   where
     cases : Dec (x % 2 ≡ 0) → getD moves x 0 < N .nodes
-    cases (yes e) = subst (λ (y : ℕ). getD moves y 0 < N .nodes) (omega arith) (on-floor .starts (x / 2) (omega arith) .numbered)
-    cases (no e) = subst (λ (y : ℕ). getD moves y 0 < N .nodes) (omega arith) (on-floor .goals (x / 2) (omega arith) .numbered)
+    cases (yes e) = subst (λ (y : ℕ). getD moves y 0 < N .nodes) (omega arith) (ends-open .starts (x / 2) (omega arith) .numbered)
+    cases (no e) = subst (λ (y : ℕ). getD moves y 0 < N .nodes) (omega arith) (ends-open .goals (x / 2) (omega arith) .numbered)
 
-module _ (N : Network) (moves : List ℕ) (i : ℕ) (few : moveCount moves ≤ carrierLimit) (inside : i < moveCount moves) (on-floor : EachBelow moves (N .nodes)) where
+module _ (N : Network) (moves : List ℕ) (i : ℕ) (few : moveCount moves ≤ carrierLimit) (inside : i < moveCount moves) (numbered : EachBelow moves (N .nodes)) where
   -- a row of distances, copied at the starts (offset 0) or at the goals (offset 1)
   at-ends : {source : ℕ} {row left table table′ : List ℕ} (offset base : ℕ) → Row.RowFilled N source row left
       → RowCopied left moves offset (moveCount moves) base table table′
@@ -63,15 +63,15 @@ module _ (N : Network) (moves : List ℕ) (i : ℕ) (few : moveCount moves ≤ c
       starts : (j : ℕ) → j < moveCount moves → DistanceIs (floor N) (startIn moves i) (startIn moves j) (getD table₃ (carrierLimit * i + j) 0)
       starts j h =
           rw (c₃ .others (carrierLimit * i + j) (inl (omega arith)), c₂ .others (carrierLimit * i + j) (inl (omega arith)))
-          (rw add-zero at (at-ends 0 (carrierLimit * i) f₁ c₁ j h (rw add-zero (on-floor (2 * j) (omega arith)))))
+          (rw add-zero at (at-ends 0 (carrierLimit * i) f₁ c₁ j h (rw add-zero (numbered (2 * j) (omega arith)))))
 
       start-goal : (j : ℕ) → j < moveCount moves → DistanceIs (floor N) (startIn moves i) (goalIn moves j) (getD table₃ (blockLength + (carrierLimit * i + j)) 0)
       start-goal j h =
           rw (c₃ .others (blockLength + (carrierLimit * i + j)) (inl (omega arith)), ← add-assoc blockLength (carrierLimit * i) j)
-          (at-ends 1 (blockLength + carrierLimit * i) f₁ c₂ j h (on-floor (2 * j + 1) (omega arith)))
+          (at-ends 1 (blockLength + carrierLimit * i) f₁ c₂ j h (numbered (2 * j + 1) (omega arith)))
 
       goals : (j : ℕ) → j < moveCount moves → DistanceIs (floor N) (goalIn moves i) (goalIn moves j) (getD table₃ (8192 + (carrierLimit * i + j)) 0)
-      goals j h = rw (← add-assoc 8192 (carrierLimit * i) j) (at-ends 1 (8192 + carrierLimit * i) f₂ c₃ j h (on-floor (2 * j + 1) (omega arith)))
+      goals j h = rw (← add-assoc 8192 (carrierLimit * i) j) (at-ends 1 (8192 + carrierLimit * i) f₂ c₃ j h (numbered (2 * j + 1) (omega arith)))
 
 -- ---- carrier after carrier
 
@@ -151,7 +151,7 @@ module _ (N : Network) (moves table : List ℕ) where
 pub served-by : (N : Network) (moves : List ℕ) {room : ℕ} → N .nodes ≤ nodeLimit → moveCount moves ≤ carrierLimit → tableLength ≤ room
     → EachBelow moves (N .nodes)
     → TableServed N moves room
-served-by N moves n k t below = record { few-nodes = n; few-carriers = k; whole-table = t; on-floor = below }
+served-by N moves n k t below = record { few-nodes = n; few-carriers = k; whole-table = t; numbered = below }
 
 -- a table filled over one that was zeroed first is the one that came, filled
 pub over-zeroed : {N : Network} {moves zero-table table′ : List ℕ} (table : List ℕ) → zero-table ≡ zeroed tableLength table → TableFilled N moves zero-table table′

@@ -40,7 +40,7 @@ pub record TableServed (N : Network) (moves : List ℕ) (room : ℕ) : Type 0 wh
   pub few-nodes : N .nodes ≤ nodeLimit
   pub few-carriers : moveCount moves ≤ carrierLimit
   pub whole-table : tableLength ≤ room
-  pub on-floor : EachBelow moves (N .nodes)
+  pub numbered : EachBelow moves (N .nodes)
 
 pub record Used (k x : ℕ) : Type 0 where
   pub first : x % blockLength / carrierLimit < k

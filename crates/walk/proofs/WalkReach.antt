@@ -93,7 +93,7 @@ module _ {N : Network} {source : ℕ} {row₀ row : List ℕ} (served : RowServe
       calm = λ k h i. absurd (let z : ⊥ = omega arith in z);
     };
     few = omega arith;
-    more = λ h. omega (arith, served .on-floor);
+    more = λ h. omega (arith, served .numbered);
   }
 
 -- ---- a sweep
@@ -208,13 +208,13 @@ module _ {N : Network} {source : ℕ} {row₋ row₀ row : List ℕ} {sweeps : �
     before-last (here x) e long small = inl e
     before-last {v = v} (step {b = b} {n = n} x l rest) e long small =
         let lane = lanes-symmetric N v b l in
-        let on-floor = begins-on-node rest in
+        let stands = begins-on-node rest in
         let back = reverse (lanes-symmetric N) (rw e at rest) in
-        let near = done-calm b v on-floor x lane in
+        let near = done-calm b v stands x lane in
         let most = done-along back in
         let zero = done-source (begins-on-node back) in
         let less : label b + 1 ≡ label v = omega (arith, near, most, zero, long) in
-        inr (record { node = b; is-node = on-floor; lane = lane; less = omega (arith, less, last-kept b (omega arith), last-kept v small) })
+        inr (record { node = b; is-node = stands; lane = lane; less = omega (arith, less, last-kept b (omega arith), last-kept v small) })
 
     last-back : (v : ℕ) → Open N v → last v ≢ noWalkMark → (v ≡ source) ⊎ Before (floor N) last v
     last-back v h f =

@@ -17,7 +17,7 @@ use Rattle.hall.specs.Floor.{DistanceIs, Network, floor}
 
 pub record RowServed (N : Network) (source : ℕ) (row : List ℕ) : Type 0 where
   pub few : N .nodes ≤ nodeLimit
-  pub on-floor : source < N .nodes
+  pub numbered : source < N .nodes
   pub wide : N .nodes ≤ length row
 
 pub record RowFilled (N : Network) (source : ℕ) (row left : List ℕ) : Type 0 where

@@ -15,7 +15,7 @@ goal-distance : (c : tie.After-row2) → let args = c .before .before .before .b
     (getD (c .before .distances .last .1 .1 .1 .1 .0) (args .goal) 0)
 goal-distance c =
     let pre = c .before .before .before .before .before .pre in
-    rowed-served (record { few = pre .0; on-floor = pre .1; wide = search needs })
+    rowed-served (record { few = pre .0; numbered = pre .1; wide = search needs })
     (c .before .distances .ensures) .1 .holds _ (pre .2)
 
 slice-aggregate-distances : tie.Need-slice-aggregate-distances

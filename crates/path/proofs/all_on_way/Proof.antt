@@ -33,7 +33,7 @@ cast-place c = omega (arith, c .shared-slice-known .given (c .before .before .lo
 returns : tie.Need-returns Inv-loop μ-loop
 returns c =
     let loop = c .before .before .before in
-    λ all. omega (arith, all (loop .loop .k) (omega arith) .on-floor)
+    λ all. omega (arith, all (loop .loop .k) (omega arith) .numbered)
 
 mul-stands : tie.Need-mul-stands Inv-loop μ-loop
 mul-stands c = search needs
@@ -56,7 +56,7 @@ loop-again : tie.Need-loop-again Inv-loop μ-loop
 loop-again c =
     let loop = c .before .before .before .before .before in
     let passed = loop .loop .inv .2 in
-    (refl, omega arith, below-more _ _ passed (record { on-floor = omega arith; reached = c .if2 .left }))
+    (refl, omega arith, below-more _ _ passed (record { numbered = omega arith; reached = c .if2 .left }))
 
 returns-3 : tie.Need-returns-3 Inv-loop μ-loop
 returns-3 c = λ k h. c .before .loop .inv .2 k (omega arith)

@@ -41,7 +41,7 @@ row-filled c =
     rowed-served
     (record {
       few = few;
-      on-floor = goal-node (network start) (start .args .start) (start .args .goal) (checks-sound told);
+      numbered = goal-node (network start) (start .args .start) (start .args .goal) (checks-sound told);
       wide = omega (arith, few, start .pre);
     })
     (walked .distances .ensures) .1
@@ -78,9 +78,9 @@ slice-read-distance : tie.Need-slice-read-distance
 slice-read-distance c =
     let told = c .before .before .before .before .before in
     let start = told .before .before .before .before .before .before in
-    let on-floor = start-node (network start) (start .args .start) (start .args .goal) (checks-sound told) in
+    let numbered = start-node (network start) (start .args .start) (start .args .goal) (checks-sound told) in
     let few = few-nodes (network start) (start .args .start) (start .args .goal) (checks-sound told) in
-    omega (arith, on-floor, few, row-filled c .size, start .pre)
+    omega (arith, numbered, few, row-filled c .size, start .pre)
 
 same-length : tie.Need-same-length
 same-length c = search needs

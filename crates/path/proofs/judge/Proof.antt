@@ -66,7 +66,7 @@ mul-distance : tie.Need-mul-distance
 mul-distance c = search needs
 
 array-read-distance : tie.Need-array-read-distance
-array-read-distance c = omega (arith, row-downhill c .on-floor, row-downhill c .few)
+array-read-distance c = omega (arith, row-downhill c .numbered, row-downhill c .few)
 
 cast-distance : tie.Need-cast-distance
 cast-distance c = omega (arith, start-small (row-downhill c))

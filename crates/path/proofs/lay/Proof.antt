@@ -38,7 +38,7 @@ mul-left c = omega arith
 shared-slice-read-left : tie.Need-shared-slice-read-left Inv-loop μ-loop
 shared-slice-read-left c =
     let down = c .before .before .before .before .pre .1 in
-    omega (arith, down .on-floor, down .wide)
+    omega (arith, down .numbered, down .wide)
 
 slice-write-path : tie.Need-slice-write-path Inv-loop μ-loop
 slice-write-path c = omega (arith, c .before .before .before .before .pre .2)

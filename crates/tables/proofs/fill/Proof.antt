@@ -27,7 +27,7 @@ all-nodes-requires c κs = search needs
 returns-4 : tie.Need-returns-4
 returns-4 c = record {
   unserved = λ s.
-      denied-not (c .before .all-nodes .result) (c .if4 .taken) (c .before .all-nodes .ensures) (s .on-floor);
+      denied-not (c .before .all-nodes .result) (c .if4 .taken) (c .before .all-nodes .ensures) (s .numbered);
   kept = refl;
 }
 

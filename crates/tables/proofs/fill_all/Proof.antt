@@ -28,7 +28,7 @@ fill-carrier-requires c κs =
     let first = loop .before .before .before .before .before in
     let served = first .pre .0 in
     let room : tableLength ≤ length (loop .loop .table) = omega (arith, served .whole-table, loop .loop .inv .2 .size) in
-    (record { few-nodes = served .few-nodes; few-carriers = served .few-carriers; whole-table = room; on-floor = served .on-floor }, omega arith)
+    (record { few-nodes = served .few-nodes; few-carriers = served .few-carriers; whole-table = room; numbered = served .numbered }, omega arith)
 
 add-i : tie.Need-add-i Inv-loop μ-loop
 add-i c = search needs

@@ -47,7 +47,7 @@ copy-row-requires c κs =
     let walk = c .before .before .before in
     let first = walk .before .before .before .before .before .before .before .before in
     let served = first .pre .0 in
-    (omega arith, omega (arith, served .few-carriers, served .whole-table, first .pre .1), λ x h. omega (arith, served .on-floor x h, served .few-nodes, walk .distances .kept .1 .1 .1 .1 .0))
+    (omega arith, omega (arith, served .few-carriers, served .whole-table, first .pre .1), λ x h. omega (arith, served .numbered x h, served .few-nodes, walk .distances .kept .1 .1 .1 .1 .0))
 
 slice-aggregate-copy-row-2 : tie.Need-slice-aggregate-copy-row-2
 slice-aggregate-copy-row-2 c = search needs
@@ -61,7 +61,7 @@ copy-row-requires-2 c κs =
     let first = walk .before .before .before .before .before .before .before .before in
     let served = first .pre .0 in
     let copied = c .before .before .before .before in
-    (omega arith, omega (arith, served .few-carriers, served .whole-table, first .pre .1, copied .copy-row .ensures .size), λ x h. omega (arith, served .on-floor x h, served .few-nodes, walk .distances .kept .1 .1 .1 .1 .0))
+    (omega arith, omega (arith, served .few-carriers, served .whole-table, first .pre .1, copied .copy-row .ensures .size), λ x h. omega (arith, served .numbered x h, served .few-nodes, walk .distances .kept .1 .1 .1 .1 .0))
 
 slice-aggregate-distances-2 : tie.Need-slice-aggregate-distances-2
 slice-aggregate-distances-2 c = search needs
@@ -83,7 +83,7 @@ copy-row-requires-3 c κs =
     let walk = copied .before .before .before .before in
     let first = walk .before .before .before .before .before .before .before .before in
     let served = first .pre .0 in
-    (omega arith, omega (arith, served .few-carriers, served .whole-table, first .pre .1, copied .copy-row .ensures .size, copied′ .copy-row2 .ensures .size), λ x h. omega (arith, served .on-floor x h, served .few-nodes, walk .distances .kept .1 .1 .1 .1 .0, again .distances2 .kept .1 .1 .1 .1 .0))
+    (omega arith, omega (arith, served .few-carriers, served .whole-table, first .pre .1, copied .copy-row .ensures .size, copied′ .copy-row2 .ensures .size), λ x h. omega (arith, served .numbered x h, served .few-nodes, walk .distances .kept .1 .1 .1 .1 .0, again .distances2 .kept .1 .1 .1 .1 .0))
 
 same-length : tie.Need-same-length
 same-length c = search needs
@@ -97,15 +97,15 @@ returns c =
     let walk = copied .before .before .before .before in
     let first = walk .before .before .before .before .before .before .before .before in
     let served = first .pre .0 in
-    let ends = served .on-floor in
+    let ends = served .numbered in
     let i = first .args .i in
     let from = ends (2 * i) (omega (arith, first .pre .1)) in
     let to = ends (2 * i + 1) (omega (arith, first .pre .1)) in
     carrier-filled (networkOf (first .args .nodes) (first .args .lanes .now) (first .args .closed .now)) (first .args .moves .now) i (served .few-carriers) (first .pre .1) ends
-    (rowed-served (record { few = served .few-nodes; on-floor = from; wide = served .few-nodes }) (walk .distances .ensures) .1)
+    (rowed-served (record { few = served .few-nodes; numbered = from; wide = served .few-nodes }) (walk .distances .ensures) .1)
     (copied .copy-row .ensures)
     (copied′ .copy-row2 .ensures)
-    (rowed-served (record { few = served .few-nodes; on-floor = to; wide = omega (arith, served .few-nodes, walk .distances .kept .1 .1 .1 .1 .0) }) (again .distances2 .ensures) .1)
+    (rowed-served (record { few = served .few-nodes; numbered = to; wide = omega (arith, served .few-nodes, walk .distances .kept .1 .1 .1 .1 .0) }) (again .distances2 .ensures) .1)
     (copied″ .copy-row3 .ensures)
 
 pub fill-carrier-spec : {M : Type 1} → statement M

@@ -11,7 +11,7 @@ returns : tie.Need-returns
 returns c = refused refl (λ s. let x : ⊥ = omega (arith, s .few, c .if1 .taken) in x) refl
 
 returns-2 : tie.Need-returns-2
-returns-2 c = refused refl (λ s. let x : ⊥ = omega (arith, s .on-floor, c .if2 .taken) in x) refl
+returns-2 c = refused refl (λ s. let x : ⊥ = omega (arith, s .numbered, c .if2 .taken) in x) refl
 
 returns-3 : tie.Need-returns-3
 returns-3 c = refused refl (λ s. let x : ⊥ = omega (arith, s .wide, c .if3 .taken) in x) refl

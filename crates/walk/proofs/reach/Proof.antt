@@ -45,7 +45,7 @@ place-inside : (c : tie.After-slice-known4 Inv-loop μ-loop) → entry c .args .
 place-inside c =
     let blank = c .before .before .before .before .before .before .before .blank in
     let size = shut-length (network c) (entry c .args .row .now) (entry c .pre .wide) (blank .ensures) (c .before .before .before .shut .ensures) in
-    omega (arith, size, entry c .pre .wide, entry c .pre .on-floor)
+    omega (arith, size, entry c .pre .wide, entry c .pre .numbered)
 
 mul-if1 : tie.Need-mul-if1 Inv-loop μ-loop
 mul-if1 c = omega arith
@@ -66,7 +66,7 @@ row-begun c =
     let blank = c .before .before .before .before .before .before .before .before .blank in
     let shut = c .before .before .before .before .shut in
     elim (c .if1 .came) [
-      | inl x ↦ rw (x .1) (begun-open (network (c .before)) (start .args .row .now) (start .pre .wide) (blank .ensures) (shut .ensures) (start .args .source) (start .pre .on-floor) (x .0 .taken))
+      | inl x ↦ rw (x .1) (begun-open (network (c .before)) (start .args .row .now) (start .pre .wide) (blank .ensures) (shut .ensures) (start .args .source) (start .pre .numbered) (x .0 .taken))
       | inr x ↦ rw (x .1) (begun-closed (network (c .before)) (start .args .row .now) (start .pre .wide) (blank .ensures) (shut .ensures) (start .args .source) (x .0 .left))
     ]
 
