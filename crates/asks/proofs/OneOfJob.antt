@@ -38,7 +38,7 @@ module _ (j : Numbers) (c : ℕ) (none : None (askedQuestion j c)) where
       none-append
       (none-append (network-sound j checked)
       (place-none (ends (j .network .nodes) (j .network .closed) (λ i. start j c) (λ i. goal j c)) 0 (
-        facts .no-node c carrier-there,
-        (facts .same-ends c carrier-there, (facts .closed-end c carrier-there, tt)),
+        facts .moves .no-node c carrier-there,
+        (facts .moves .same-ends c carrier-there, (facts .moves .closed-end c carrier-there, tt)),
       )))
       (asked-clear (walks-of-none j job-sound c carrier-there) none-at-all)

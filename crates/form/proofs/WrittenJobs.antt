@@ -117,41 +117,41 @@ module _ (j : Numbers) (sound : None (checksQuestion j)) where
 
   pub lanes-paired : ByTwos (j .network .lanes)
   lanes-paired =
-      let even : ¬ (length (j .network .lanes) % 2 ≡ 1) = λ e. facts .network .lanes (inr e) in
+      let even : ¬ (length (j .network .lanes) % 2 ≡ 1) = λ e. facts .moves .network .lanes (inr e) in
       omega arith
 
   pub nodes-fit : (1 ≤ j .network .nodes) × (j .network .nodes ≤ nodeLimit)
   nodes-fit =
-      let some : ¬ (j .network .nodes < 1) = λ e. facts .network .nodes (inl e) in
+      let some : ¬ (j .network .nodes < 1) = λ e. facts .moves .network .nodes (inl e) in
       (omega arith, nodes-limit j sound)
 
   pub lanes-few : laneCount (j .network .lanes) ≤ laneLimit
   lanes-few =
-      let few : ¬ (laneLimit < length (j .network .lanes) / 2) = λ e. facts .network .lanes (inl e) in
+      let few : ¬ (laneLimit < length (j .network .lanes) / 2) = λ e. facts .moves .network .lanes (inl e) in
       omega arith
 
   pub closed-few : length (j .network .closed) ≤ nodeLimit
   closed-few =
-      let few : ¬ (nodeLimit < length (j .network .closed)) = facts .network .closed-count in
+      let few : ¬ (nodeLimit < length (j .network .closed)) = facts .moves .network .closed-count in
       omega arith
 
   pub small-lanes : Small (j .network .lanes)
   small-lanes = pairs-small (j .network .lanes) lanes-paired (λ k b. (
     node-small (j .network .nodes) (lower (j .network .lanes) k) (nodes-fit .1)
-        (λ y. facts .network .lane k b (no-node (inl y))),
+        (λ y. facts .moves .network .lane k b (no-node (inl y))),
     node-small (j .network .nodes) (higher (j .network .lanes) k) (nodes-fit .1)
-        (λ y. facts .network .lane k b (no-node (inr y))),
+        (λ y. facts .moves .network .lane k b (no-node (inr y))),
   ))
 
   pub small-closed : Small (j .network .closed)
   small-closed = small-by (j .network .closed) (λ k b.
       node-small (j .network .nodes) (getD (j .network .closed) k 0) (nodes-fit .1)
-      (λ y. facts .network .closed-node k b (no-such-node y)))
+      (λ y. facts .moves .network .closed-node k b (no-such-node y)))
 
   pub small-moves : ByTwos (j .moves) → Small (j .moves)
   small-moves paired = pairs-small (j .moves) paired (λ i b. (
-    node-small (j .network .nodes) (startIn (j .moves) i) (nodes-fit .1) (λ y. facts .no-node i b (inl y)),
-    node-small (j .network .nodes) (goalIn (j .moves) i) (nodes-fit .1) (λ y. facts .no-node i b (inr y)),
+    node-small (j .network .nodes) (startIn (j .moves) i) (nodes-fit .1) (λ y. facts .moves .no-node i b (inl y)),
+    node-small (j .network .nodes) (goalIn (j .moves) i) (nodes-fit .1) (λ y. facts .moves .no-node i b (inr y)),
   ))
 
   small-order : Small (j .order)
@@ -175,7 +175,7 @@ module _ (j : Numbers) (sound : None (checksQuestion j)) where
         let counts : countOf CARRIERS (read ++ (content CARRIERS (job.carriers j) (pairs (j .moves)) ∷ []))
         ≡ job.carriers j = none (content CARRIERS (job.carriers j) (pairs (j .moves))) in
         carriers-sound read _ _ (j .moves) paired (small-moves paired) (carriers-limit j sound)
-        (λ i b. rw (n, c) (facts .no-node i b, (facts .same-ends i b, (facts .closed-end i b, tt))))
+        (λ i b. rw (n, c) (facts .moves .no-node i b, (facts .moves .same-ends i b, (facts .moves .closed-end i b, tt))))
         (order-sound _ _ _ (j .order) small-order (order-length j sound ∙ sym counts)
         (omega (arith, order-length j sound, carriers-limit j sound))
         (λ p b. rw counts (facts .bad-order p b, tt)) (dwell-sound _ (j .dwell) (dwell-within j sound)))
@@ -196,7 +196,7 @@ module _ (j : Numbers) (sound : None (checksQuestion j)) where
         closed-sound _ _ _ (v ∷ l) (subst Small (sym e) small-closed) (omega arith)
         (subst (λ (x : List ℕ). length x ≤ nodeLimit) (sym e) closed-few)
         (subst (λ (x : List ℕ). (k : ℕ) → k < length x → ¬ ClosedFault (j .network .nodes) x k) (sym e)
-        (facts .network .closed-node))
+        (facts .moves .network .closed-node))
         (carriers-on _ refl (singles-back (v ∷ l) ∙ e) (λ c. refl))
 
     pub contents-sound : Sound [] jobText (contentsOf j)
@@ -204,7 +204,7 @@ module _ (j : Numbers) (sound : None (checksQuestion j)) where
     contents-sound =
         let few = nodes-fit .1 in
         line-sound [] _ _ nodesSection (j .network .nodes) (omega arith) nodes-fit refl
-        (lanes-sound _ _ _ (j .network .lanes) lanes-paired small-lanes lanes-few (facts .network .lane)
+        (lanes-sound _ _ _ (j .network .lanes) lanes-paired small-lanes lanes-few (facts .moves .network .lane)
         (closed-on (j .network .closed) refl))
 
 pub written-sound : (t : List ℕ) (j : Numbers) → WrittenJob t j → WrittenForm jobText t (contentsOf j)

@@ -3,21 +3,26 @@
 -- number. A zeroed table keeps its length, is zero below n and as it was from n on, and a loop that sets one
 -- place after the other to zero makes it, by induction over its length. Assumes nothing.
 --     drop-zeroed      a zeroed table behind its first places: zeros, and what stood beyond
+--     zeroed-same      tables that agree from n on are the same when zeroed
+--     row-unique       two rows that are left of one row, and agree for the carriers, are the same
+--     row-over         what is left of a row that was zeroed first is left of the row that came
 --     filled-none      a table that is filled with no numbers is a zeroed one
 --     filled-front     the numbers stand in front of a filled table
 --     NotNine n        the number n is not 9
 --     Among P q        every number that the question q can give has the property P
-use mathlib.Core.Path.{_≡_, refl, sym, ap, subst}
+use mathlib.Core.Path.{_≡_, refl, sym, _∙_, ap, subst}
 use mathlib.Core.List.{List, [], _∷_, _++_}
 use Prim.Native.Nat.{ℕ, zero, suc, _+_, _-_, _≤_, _<_}
 use native.Mathlib.Nat.{not-suc-le-zero, le-of-suc-le-suc}
 use native.Mathlib.Numerals.{add-one}
+use native.Mathlib.Decide.{decLt}
 use native.Mathlib.Omega.{arith}
 use lib.ListN.{length, getD, set, take, drop, replicate}
-use lib.Seq.{take-at}
+use lib.Seq.{take-at, ext-getD}
 use borrow.Author.Tests.{ne-eqb}
 use Rattle.hall.specs.Stages.{Stage, Question, here, later, FirstAt, FirstStage, First}
-use Rattle.hall.specs.Left.{zeroed, filled, left}
+use Rattle.hall.specs.Limits.{carrierLimit}
+use Rattle.hall.specs.Left.{zeroed, filled, left, RowLeft}
 
 pub zeroed-length : (n : ℕ) (t : List ℕ) → length (zeroed n t) ≡ length t
 unfolding zeroed
@@ -75,6 +80,45 @@ drop-zeroed zero (suc n) (x ∷ t) h l =
 drop-zeroed (suc k) (suc n) (x ∷ t) h l =
     let less : suc n - suc k ≡ n - k = omega arith in
     rw less (drop-zeroed k n t (le-of-suc-le-suc h) (le-of-suc-le-suc l))
+
+pub zeroed-same : (n : ℕ) (t u : List ℕ) → length u ≡ length t → ((x : ℕ) → n ≤ x → getD u x 0 ≡ getD t x 0)
+    → zeroed n u ≡ zeroed n t
+zeroed-same n t u size beyond =
+    ext-getD 0 (zeroed n u) (zeroed n t) (zeroed-length n u ∙ size ∙ sym (zeroed-length n t)) (λ x h. cases x (decLt x n))
+  where
+    cases : (x : ℕ) → Dec (x < n) → getD (zeroed n u) x 0 ≡ getD (zeroed n t) x 0
+    cases x (yes l) = zeroed-below n u x l ∙ sym (zeroed-below n t x l)
+    cases x (no l) = zeroed-beyond n u x (omega arith) ∙ beyond x (omega arith) ∙ sym (zeroed-beyond n t x (omega arith))
+
+pub zeroed-twice : (n : ℕ) (t : List ℕ) → zeroed n (zeroed n t) ≡ zeroed n t
+zeroed-twice n t = zeroed-same n t (zeroed n t) (zeroed-length n t) (zeroed-beyond n t)
+
+-- ---- a number for each carrier
+
+pub row-unique : {k : ℕ} {row u v : List ℕ} → RowLeft k row u → RowLeft k row v
+    → ((i : ℕ) → i < k → getD u i 0 ≡ getD v i 0) → u ≡ v
+row-unique {k} {row} {u} {v} a b same = ext-getD 0 u v (a .size ∙ sym (b .size)) (λ i h. cases i (decLt i k) (decLt i carrierLimit))
+  where
+    cases : (i : ℕ) → Dec (i < k) → Dec (i < carrierLimit) → getD u i 0 ≡ getD v i 0
+    cases i (yes h) d = same i h
+    cases i (no h) (yes l) = a .unused i (omega arith) l ∙ sym (b .unused i (omega arith) l)
+    cases i (no h) (no l) = a .beyond i (omega arith) ∙ sym (b .beyond i (omega arith))
+
+pub row-over : {k : ℕ} {u : List ℕ} (row : List ℕ) → RowLeft k (zeroed carrierLimit row) u → RowLeft k row u
+row-over row a = record {
+  size = a .size ∙ zeroed-length carrierLimit row;
+  unused = a .unused;
+  beyond = λ x h. a .beyond x h ∙ zeroed-beyond carrierLimit row x h;
+}
+
+-- of a zeroed row only the places of the carriers changed
+pub row-changed : {k : ℕ} (row : List ℕ) {u : List ℕ} → k ≤ carrierLimit → length u ≡ length row
+    → ((i : ℕ) → k ≤ i → getD u i 0 ≡ getD (zeroed carrierLimit row) i 0) → RowLeft k row u
+row-changed row few size others = record {
+  size = size;
+  unused = λ i h l. others i h ∙ zeroed-below carrierLimit row i l;
+  beyond = λ i h. others i (omega arith) ∙ zeroed-beyond carrierLimit row i h;
+}
 
 -- ---- numbers in front
 

@@ -3,8 +3,11 @@
 -- carriers and that the order lists each carrier number once (`Listing`); that a start is unlike its goal (5)
 -- they use nowhere, and of two moves together there is nothing to use. That every carrier has a place is the
 -- counting law `all-listed`. Assumes nothing.
---     Denied j     none of these checks holds of the job, check by check
---     Listing j    the order lists the carrier numbers by place, each once, and there are at most 64
+--     DeniedMoves j    none of these checks but 7 holds of the job, check by check
+--     Denied j         nor does 7
+--     MovesSound j     what the first of these tells: the job is within its limits, its order has a place for
+--                      each carrier, and its ends are open nodes
+--     Listing j        the order lists the carrier numbers by place, each once, and there are at most 64
 use mathlib.Core.Path.{_≡_, sym}
 use mathlib.Core.Logic.{_⊎_, inl, inr, _≢_}
 use mathlib.Core.List.{[], _∷_}
@@ -18,8 +21,9 @@ use Rattle.hall.specs.Job.{Numbers, carriers, start, goal, at-place, End
 use Rattle.hall.specs.Stages.{FirstOf, here, later, FirstAt, FirstStage, First, None}
 use Rattle.hall.specs.Refusals.{LaneFault, ClosedFault, NoNode-at, ClosedEnd-at}
 use Rattle.hall.specs.Refusals.{BadOrder-at, no-carrier, stands-earlier}
-use Rattle.hall.specs.Questions.{laneChecks, closedChecks, moveChecks, orderChecks, walkChecks, eachWalk}
-use Rattle.hall.specs.Questions.{networkQuestion, checksQuestion, jobQuestion}
+use Rattle.hall.specs.Questions.{laneChecks, closedChecks, moveChecks, orderChecks, eachOrderPlace}
+use Rattle.hall.specs.Questions.{walkChecks, eachWalk, networkQuestion, movesQuestion, checksQuestion}
+use Rattle.hall.specs.Questions.{jobQuestion}
 use Rattle.hall.proofs.Stages.{none-excludes}
 use Rattle.hall.proofs.Compose.{none-split, first-split}
 use Rattle.hall.proofs.Places.{none-asked, none-each}
@@ -55,7 +59,7 @@ network-denied N none =
 
 -- ---- a job without the faults of its listed checks
 
-pub record Denied (j : Numbers) : Type 0 where
+pub record DeniedMoves (j : Numbers) : Type 0 where
   pub network : DeniedNetwork (j .network)
   pub carriers-count : ¬ (carrierLimit < carriers j)
   pub order-count : ¬ (length (j .order) ≢ carriers j)
@@ -63,10 +67,13 @@ pub record Denied (j : Numbers) : Type 0 where
   pub no-node : (i : ℕ) → i < carriers j → ¬ NoNode-at (j .network .nodes) (start j i) (goal j i)
   pub same-ends : (i : ℕ) → i < carriers j → ¬ (start j i ≡ goal j i)
   pub closed-end : (i : ℕ) → i < carriers j → ¬ ClosedEnd-at (j .network .closed) (start j i) (goal j i)
+
+pub record Denied (j : Numbers) : Type 0 where
+  pub moves : DeniedMoves j
   pub bad-order : (p : ℕ) → p < length (j .order) → ¬ BadOrder-at (carriers j) (j .order) p
 
-pub denied-checks : (j : Numbers) → None (checksQuestion j) → Denied j
-denied-checks j none =
+pub denied-moves : (j : Numbers) → None (movesQuestion j) → DeniedMoves j
+denied-moves j none =
     let nodes = none-asked none in
     let lanes = none-asked (nodes .1) in
     let closed = none-asked (lanes .1) in
@@ -76,7 +83,6 @@ denied-checks j none =
     let lane = none-each (laneChecks (j .network .nodes) (j .network .lanes)) (dwell .1) in
     let shut = none-each (closedChecks (j .network .nodes) (j .network .closed)) (lane .1) in
     let move = none-each (moveChecks (j .network .nodes) (j .network .closed) (j .moves)) (shut .1) in
-    let entry = none-each (orderChecks (carriers j) (j .order)) (move .1) in
     record {
       network = record {
         nodes = nodes .0;
@@ -91,8 +97,60 @@ denied-checks j none =
       no-node = λ i l. move .0 .clear i l .0;
       same-ends = λ i l. move .0 .clear i l .1 .0;
       closed-end = λ i l. move .0 .clear i l .1 .1 .0;
-      bad-order = λ p l. entry .0 .clear p l .0;
     }
+
+-- the order's entries are looked at last
+pub moves-of-none : (j : Numbers) → None (checksQuestion j) → None (movesQuestion j)
+moves-of-none j none = none-split (movesQuestion j) (eachOrderPlace (carriers j) (j .order) ∷ []) none .0
+
+pub denied-checks : (j : Numbers) → None (checksQuestion j) → Denied j
+denied-checks j none =
+    let entries = none-split (movesQuestion j) (eachOrderPlace (carriers j) (j .order) ∷ []) none .1 in
+    record {
+      moves = denied-moves j (moves-of-none j none);
+      bad-order = λ p l. none-each (orderChecks (carriers j) (j .order)) entries .0 .clear p l .0;
+    }
+
+-- ---- what the checks up to the order's entries tell
+
+pub record MovesSound (j : Numbers) : Type 0 where
+  pub few-nodes : j .network .nodes ≤ nodeLimit
+  pub few-carriers : carriers j ≤ carrierLimit
+  pub order-size : length (j .order) ≡ carriers j
+  pub dwell-few : j .dwell ≤ dwellLimit
+  -- every start and every goal is an open node, and a goal is not its start
+  pub ends-open : EndsOn (floor (j .network)) (j .moves)
+  pub ends-differ : (i : ℕ) → i < carriers j → start j i ≢ goal j i
+
+-- no order of another length
+same-size : (m n : ℕ) → ¬ (m ≢ n) → m ≡ n
+same-size m n h = cases (ℕ-discrete m n)
+  where
+    cases : Dec (m ≡ n) → m ≡ n
+    cases (yes e) = e
+    cases (no e) = absurd (h e)
+
+pub moves-sound : (j : Numbers) → None (movesQuestion j) → MovesSound j
+moves-sound j none = record {
+  few-nodes = not-above nodeLimit (j .network .nodes) (λ h. facts .network .nodes (inr h));
+  few-carriers = not-above carrierLimit (carriers j) (facts .carriers-count);
+  order-size = same-size (length (j .order)) (carriers j) (facts .order-count);
+  dwell-few = not-above dwellLimit (j .dwell) (facts .dwell-count);
+  ends-open = record {
+    starts = λ i l. record {
+      numbered = not-above (j .network .nodes) (suc (start j i)) (λ x. facts .no-node i l (inl (omega arith)));
+      not-closed = λ c. facts .closed-end i l (inl c);
+    };
+    goals = λ i l. record {
+      numbered = not-above (j .network .nodes) (suc (goal j i)) (λ x. facts .no-node i l (inr (omega arith)));
+      not-closed = λ c. facts .closed-end i l (inr c);
+    };
+  };
+  ends-differ = facts .same-ends;
+}
+  where
+    facts : DeniedMoves j
+    facts = denied-moves j none
 
 -- the listed checks are asked before 8
 pub checks-of-none : (j : Numbers) → None (jobQuestion j) → None (checksQuestion j)
@@ -144,34 +202,23 @@ module _ (j : Numbers) (sound : None (checksQuestion j)) where
   facts : Denied j
   facts = denied-checks j sound
 
+  within : MovesSound j
+  within = moves-sound j (moves-of-none j sound)
+
   pub nodes-limit : j .network .nodes ≤ nodeLimit
-  nodes-limit = not-above nodeLimit (j .network .nodes) (λ h. facts .network .nodes (inr h))
+  nodes-limit = within .few-nodes
 
   pub carriers-limit : carriers j ≤ carrierLimit
-  carriers-limit = not-above carrierLimit (carriers j) (facts .carriers-count)
+  carriers-limit = within .few-carriers
 
   pub dwell-within : j .dwell ≤ dwellLimit
-  dwell-within = not-above dwellLimit (j .dwell) (facts .dwell-count)
+  dwell-within = within .dwell-few
 
   pub order-length : length (j .order) ≡ carriers j
-  order-length = cases (ℕ-discrete (length (j .order)) (carriers j))
-    where
-      cases : Dec (length (j .order) ≡ carriers j) → length (j .order) ≡ carriers j
-      cases (yes e) = e
-      cases (no e) = absurd (facts .order-count e)
+  order-length = within .order-size
 
-  -- every start and every goal is an open node
   pub ends-on : EndsOn (floor (j .network)) (j .moves)
-  ends-on = record {
-    starts = λ i l. record {
-      numbered = not-above (j .network .nodes) (suc (start j i)) (λ x. facts .no-node i l (inl (omega arith)));
-      not-closed = λ c. facts .closed-end i l (inl c);
-    };
-    goals = λ i l. record {
-      numbered = not-above (j .network .nodes) (suc (goal j i)) (λ x. facts .no-node i l (inr (omega arith)));
-      not-closed = λ c. facts .closed-end i l (inr c);
-    };
-  }
+  ends-on = within .ends-open
 
   -- an order entry is a carrier number
   pub entry-below : (p : ℕ) → p < length (j .order) → at-place j p < carriers j

@@ -4,7 +4,9 @@ use mathlib.Core.Path.{_≡_, sym, _∙_}
 use mathlib.Core.Logic.{_⊎_, inl, inr, _≢_}
 use Prim.Native.Nat.{ℕ, suc, _+_, _≤_, zero-le}
 use native.Mathlib.Nat.{zero-add, suc-add, le-antisymm}
-use Rattle.hall.specs.Floor.{Floor, Symmetric, Walk, here, step, Dist, DistanceIs, no-walk, distance, Network, floor}
+use native.Mathlib.Omega.{arith}
+use Rattle.hall.specs.Floor.{Floor, Symmetric, Walk, here, step, Dist, NoWalk, DistanceIs, no-walk, distance}
+use Rattle.hall.specs.Floor.{Network, floor}
 
 module _ {F : Floor} where
   pub join : {a b c m n : ℕ} → Walk F a b m → Walk F b c n → Walk F a c (m + n)
@@ -59,6 +61,14 @@ module _ {F : Floor} where
   pub distance-small : {a b r : ℕ} → DistanceIs F a b r → r ≢ 65535 → r ≤ 1023
   distance-small (no-walk e none) h = absurd (h e)
   distance-small (distance small d) h = small
+
+  -- the mark stands for no walk, and nothing else does
+  pub marked-none : {a b r : ℕ} → DistanceIs F a b r → r ≡ 65535 → NoWalk F a b
+  marked-none (no-walk e none) h = none
+  marked-none (distance small d) h = absurd (let x : ⊥ = omega arith in x)
+
+  pub unmarked-walk : {a b r : ℕ} → DistanceIs F a b r → r ≢ 65535 → ¬ NoWalk F a b
+  unmarked-walk {r = r} h unmarked none = none r (true-distance h unmarked .walk)
 
 pub lanes-symmetric : (N : Network) → Symmetric (floor N)
 lanes-symmetric N a b l = record { k = l .k; inside = l .inside; ends = turned (l .ends) }

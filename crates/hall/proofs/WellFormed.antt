@@ -1,11 +1,12 @@
--- A job is well formed exactly if none of its listed checks holds of it. From no fault: each part is the
+-- A job is well formed exactly if none of its listed checks holds of it, and a network by itself exactly if
+-- none of its own does. From no fault: each part is the
 -- denial of one check; the checks hold each lane only against the one before it, and that any later lane
 -- exceeds any earlier one is an induction over the later, since exceeding is transitive, and so of the closed
 -- nodes; that every carrier has a place is the counting law behind `place-of`. To no fault: each stage is
 -- clear by one part. Assumes nothing.
 use mathlib.Core.Path.{_≡_, sym, subst}
 use mathlib.Core.Logic.{_↔_, _⊎_, inl, inr, _≢_}
-use mathlib.Core.List.{List}
+use mathlib.Core.List.{List, _∷_}
 use Prim.Native.Nat.{ℕ, zero, suc, _/_, _%_, _<_}
 use native.Mathlib.Nat.{not-suc-le-zero}
 use native.Mathlib.Decide.{decLt}
@@ -17,15 +18,17 @@ use Rattle.hall.specs.Job.{Numbers, carriers, start, goal}
 use Rattle.hall.specs.Refusals.{Exceeds, by-lower, by-higher, LaneFault, no-node, not-below, not-rising}
 use Rattle.hall.specs.Refusals.{ClosedFault, no-such-node, not-higher, NoNode-at, ClosedEnd-at}
 use Rattle.hall.specs.Refusals.{BadOrder-at, no-carrier, stands-earlier}
-use Rattle.hall.specs.Stages.{None}
-use Rattle.hall.specs.Questions.{laneChecks, closedChecks, moveChecks, orderChecks, checksQuestion}
+use Rattle.hall.specs.Stages.{Question, None}
+use Rattle.hall.specs.Questions.{laneChecks, eachLane, closedChecks, eachClosed, moveChecks, orderChecks}
+use Rattle.hall.specs.Questions.{networkQuestion, checksQuestion}
 use Rattle.hall.specs.WellFormed.{WellFormedNetwork, WellFormed}
 use Rattle.hall.proofs.Test.{dec}
 use Rattle.hall.proofs.FaultTests.{exceeds?}
 use Rattle.hall.proofs.Compose.{none-more, none-at-all}
 use Rattle.hall.proofs.Places.{asked-clear, Passed, each-none}
-use Rattle.hall.proofs.Sound.{not-above, DeniedNetwork, Denied, denied-checks, carriers-limit, dwell-within, order-length}
-use Rattle.hall.proofs.Sound.{ends-on, entry-below, entry-once, place-of}
+use Rattle.hall.proofs.Sound.{not-above, DeniedNetwork, network-denied, Denied, denied-checks}
+use Rattle.hall.proofs.Sound.{carriers-limit, dwell-within, order-length, ends-on}
+use Rattle.hall.proofs.Sound.{entry-below, entry-once, place-of}
 
 -- ---- the rising order
 
@@ -98,11 +101,11 @@ module _ (j : Numbers) (sound : None (checksQuestion j)) where
 
   pub well-formed : WellFormed j
   well-formed = record {
-    network-is = well-formed-network (j .network) (facts .network);
+    network-is = well-formed-network (j .network) (facts .moves .network);
     dwell-few = dwell-within j sound;
     carrier-count = carriers-limit j sound;
     ends-on = ends-on j sound;
-    ends-differ = facts .same-ends;
+    ends-differ = facts .moves .same-ends;
     order-count = order-length j sound;
     entry = entry-below j sound;
     placed = λ c h. let f = place-of j sound c h in (f .place, (f .inside, f .is));
@@ -136,6 +139,20 @@ module _ (N : Network) (w : WellFormedNetwork N) where
   each-closed-passed : Passed (closedChecks (N .nodes) (N .closed)) (length (N .closed))
   each-closed-passed = record { clear = λ k l. (no-closed-fault k l, tt) }
 
+  -- 3 and 12, of every lane and every closed node
+  no-entry-check : {q : Question} → None q →
+      None (eachLane (N .nodes) (N .lanes) ∷ eachClosed (N .nodes) (N .closed) ∷ q)
+  no-entry-check rest =
+      none-more (each-none (laneChecks (N .nodes) (N .lanes)) each-lane-passed)
+      (none-more (each-none (closedChecks (N .nodes) (N .closed)) each-closed-passed) rest)
+
+  pub no-network-check : None (networkQuestion N)
+  no-network-check =
+      asked-clear no-nodes-fault
+      (asked-clear no-lanes-fault
+      (asked-clear (λ l. omega (arith, w .closed-count))
+      (no-entry-check none-at-all)))
+
 module _ (j : Numbers) (w : WellFormed j) where
   ends-are-nodes : (i : ℕ) → i < carriers j → ¬ NoNode-at (j .network .nodes) (start j i) (goal j i)
   ends-are-nodes i h (inl x) = omega (arith, w .ends-on .starts i h .numbered)
@@ -157,11 +174,10 @@ module _ (j : Numbers) (w : WellFormed j) where
       (asked-clear (λ l. omega (arith, w .carrier-count))
       (asked-clear (λ d. d (w .order-count))
       (asked-clear (λ l. omega (arith, w .dwell-few))
-      (none-more (each-none (laneChecks (j .network .nodes) (j .network .lanes)) (each-lane-passed (j .network) (w .network-is)))
-      (none-more (each-none (closedChecks (j .network .nodes) (j .network .closed)) (each-closed-passed (j .network) (w .network-is)))
+      (no-entry-check (j .network) (w .network-is)
       (none-more (each-none (moveChecks (j .network .nodes) (j .network .closed) (j .moves)) moves-passed)
       (none-more (each-none (orderChecks (carriers j) (j .order)) order-passed)
-      none-at-all)))))))))
+      none-at-all))))))))
     where
       moves-passed : Passed (moveChecks (j .network .nodes) (j .network .closed) (j .moves)) (carriers j)
       moves-passed = record { clear = λ i l. (ends-are-nodes i l, (w .ends-differ i l, (no-closed-end i l, tt))) }
@@ -192,6 +208,9 @@ module _ (N : Network) (w : WellFormedNetwork N) where
       cases h (inl e) = (omega arith, omega arith, λ x. omega arith)
       cases h (inr e) = (omega arith, omega arith, λ x. omega arith)
 
--- the listed checks are the rules' words
+-- the checks of a network, and the listed checks of a job, are the rules' words
+pub network-well-formed-iff : (N : Network) → None (networkQuestion N) ↔ WellFormedNetwork N
+network-well-formed-iff N = (λ none. well-formed-network N (network-denied N none), no-network-check N)
+
 pub well-formed-iff : (j : Numbers) → None (checksQuestion j) ↔ WellFormed j
 well-formed-iff j = (well-formed j, no-check j)

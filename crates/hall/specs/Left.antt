@@ -6,11 +6,15 @@
 --     left k n t     a table of least length n after the refusal with the number k: 9 leaves it as it came,
 --                    every other zeroes the least length. Where the rules say otherwise, as of records and
 --                    order after planning, the question's own promise does
+--     RowLeft        a list with a number for each of k carriers, and room for the 64 that a job can have:
+--                    unused places are zero, and beyond that room nothing is touched
+use mathlib.Core.Path.{_≡_}
 use mathlib.Core.List.{List, [], _∷_, _++_}
 use mathlib.Core.Bool.{cond}
-use Prim.Native.Nat.{ℕ, zero, suc, _-_}
+use Prim.Native.Nat.{ℕ, zero, suc, _-_, _≤_, _<_}
 use lib.Dec.{eqb}
-use lib.ListN.{length, drop, replicate}
+use lib.ListN.{length, getD, drop, replicate}
+use Rattle.hall.specs.Limits.{carrierLimit}
 
 unfoldable pub zeroed : ℕ → List ℕ → List ℕ
 zeroed zero t = t
@@ -22,3 +26,8 @@ filled numbers least table = numbers ++ (replicate (least - length numbers) 0 ++
 
 abbrev pub left : (number least : ℕ) → List ℕ → List ℕ
 left k n t = cond (eqb k 9) t (zeroed n t)
+
+pub record RowLeft (k : ℕ) (row row′ : List ℕ) : Type 0 where
+  pub size : length row′ ≡ length row
+  pub unused : (i : ℕ) → k ≤ i → i < carrierLimit → getD row′ i 0 ≡ 0
+  pub beyond : (i : ℕ) → carrierLimit ≤ i → getD row′ i 0 ≡ getD row i 0

@@ -19,7 +19,9 @@
 --     shortTable, lacking, unfit    9, 10 and 11
 --     counts             2, of the five counts and the dwell
 --     networkQuestion    a network by itself: 2 (nodes, lanes, closed nodes), 3, 12
---     checksQuestion     the listed checks of a job: 2, 3, 12, then 4, 5 and 13 of each move, then 7
+--     movesQuestion      the listed checks of a job up to its order's entries: 2, 3, 12, then 4, 5 and 13 of
+--                        each move. Of the order its length is asked for, and nothing else
+--     checksQuestion     the listed checks of a job: these, then 7
 --     jobQuestion        a job: the same, then 8
 --     planning           9, then those of the job
 --     writing            9, then the listed checks of the job; no walk is asked for
@@ -130,15 +132,17 @@ networkQuestion N =
     ∷ eachClosed (N .nodes) (N .closed)
     ∷ []
 
-abbrev pub checksQuestion : Numbers → Question
-checksQuestion j =
+abbrev pub movesQuestion : Numbers → Question
+movesQuestion j =
     counts (j .network .nodes) (length (j .network .lanes)) (length (j .network .closed))
     (carriers j) (length (j .order)) (j .dwell)
     ++ (eachLane (j .network .nodes) (j .network .lanes)
     ∷ eachClosed (j .network .nodes) (j .network .closed)
     ∷ eachMove (j .network .nodes) (j .network .closed) (j .moves)
-    ∷ eachOrderPlace (carriers j) (j .order)
     ∷ [])
+
+abbrev pub checksQuestion : Numbers → Question
+checksQuestion j = movesQuestion j ++ (eachOrderPlace (carriers j) (j .order) ∷ [])
 
 abbrev pub jobQuestion : Numbers → Question
 jobQuestion j = checksQuestion j ++ (eachWalk (j .network) (j .moves) ∷ [])

@@ -1,6 +1,6 @@
 // The types that every crate shares, in the words of the rules: a job's counts with their limits, a place in
 // the order, a carrier's number, faults and refusals. The mathematics that they speak about stands in specs/,
-// its laws in proofs/. Nothing here refuses or searches; the one function that writes is in zero.rt.
+// its laws in proofs/. Nothing here refuses or searches; the functions that write are in zero.rt.
 ghost use mathlib.Core.Path.{_≡_};
 ghost use lib.ListN.{getD};
 ghost use denote.Ref.{now};
@@ -133,6 +133,17 @@ impl Fault {
 pub struct Refusal {
     pub fault: Fault,
     pub place: usize,
+}
+
+impl Refusal {
+    pub fn new(fault: Fault, place: usize) -> Self
+        ensures { λ r. ⌜ r ≡ record { fault = fault; place = place } ⌝ }
+    {
+        Refusal {
+            fault: fault,
+            place: place,
+        }
+    }
 }
 
 // What a check answers.

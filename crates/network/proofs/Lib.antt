@@ -4,4 +4,5 @@ pub mod Tests
 pub mod LaneList
 pub mod ClosedList
 pub mod EntryKinds
+pub mod SoundMove
 pub mod Unique

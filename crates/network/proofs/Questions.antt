@@ -1,6 +1,6 @@
 -- Questions in other words. At a place below n, the checks of a stage are those that it has at each place
 -- below n: check by check. What never holds may be left out of a question, at its front or at its end, so the
--- listed checks of a job without carriers and dwell are the question of its network. Assumes nothing.
+-- checks of a job without carriers and dwell, up to its order, are the question of its network. Assumes nothing.
 use mathlib.Core.Path.{_≡_, refl}
 use mathlib.Core.Logic.{_↔_}
 use mathlib.Core.List.{[], _∷_, _++_}
@@ -11,8 +11,8 @@ use Rattle.hall.specs.Floor.{Network}
 use Rattle.hall.specs.Job.{jobOf}
 use Rattle.hall.specs.Stages.{Stage, Question, FirstOf, here, later, First, None, once, only-at, at-each}
 use Rattle.hall.specs.Questions.{nodesCount, lanesCount, closedCount, carriersCount, orderCount, dwellCount}
-use Rattle.hall.specs.Questions.{eachLane, eachClosed, moveChecks, eachMove, orderChecks, eachOrderPlace}
-use Rattle.hall.specs.Questions.{networkQuestion, checksQuestion}
+use Rattle.hall.specs.Questions.{eachLane, eachClosed, moveChecks, eachMove}
+use Rattle.hall.specs.Questions.{networkQuestion, movesQuestion}
 use Rattle.hall.proofs.Stages.{none-excludes}
 use Rattle.hall.proofs.Compose.{none-at-all, none-more, none-split, first-split}
 use Rattle.hall.proofs.Compose.{_⇒_, ⇒-append, ⇒-stage, alike-none, alike-check}
@@ -52,12 +52,10 @@ module _ (N : Network) where
   no-more-counts =
       asked-clear (omega arith) (asked-clear (λ differ. differ refl) (asked-clear (omega arith) none-at-all))
 
-  no-entries : None (eachMove (N .nodes) (N .closed) [] ∷ eachOrderPlace 0 [] ∷ [])
-  no-entries =
-      none-more (each-none (moveChecks (N .nodes) (N .closed) []) (loop-begins _))
-      (none-more (each-none (orderChecks 0 []) (loop-begins _)) none-at-all)
+  no-entries : None (eachMove (N .nodes) (N .closed) [] ∷ [])
+  no-entries = none-more (each-none (moveChecks (N .nodes) (N .closed) []) (loop-begins _)) none-at-all
 
-  pub network-alone : checksQuestion (jobOf N [] [] 0) ⇒ networkQuestion N
+  pub network-alone : movesQuestion (jobOf N [] [] 0) ⇒ networkQuestion N
   network-alone = ⇒-append counts (more ++ (lists ++ rest)) (same counts) without
     where
       counts : Question
@@ -70,7 +68,7 @@ module _ (N : Network) where
       lists = eachLane (N .nodes) (N .lanes) ∷ eachClosed (N .nodes) (N .closed) ∷ []
 
       rest : Question
-      rest = eachMove (N .nodes) (N .closed) [] ∷ eachOrderPlace 0 [] ∷ []
+      rest = eachMove (N .nodes) (N .closed) [] ∷ []
 
       same : (q : Question) → q ⇒ q
       same q = record { firsts = λ f p h. h; nones = λ n. n }

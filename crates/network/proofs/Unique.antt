@@ -14,7 +14,7 @@ use Rattle.hall.specs.Rule.{Answers}
 use Rattle.hall.specs.Stages.{Question, only-at}
 use Rattle.hall.specs.Said.{Judged}
 use Rattle.hall.specs.Questions.{counts, eachLane, eachClosed, eachMove, eachOrderPlace}
-use Rattle.hall.specs.Questions.{networkQuestion, checksQuestion, moveEnds}
+use Rattle.hall.specs.Questions.{networkQuestion, movesQuestion, checksQuestion, moveEnds}
 use Rattle.hall.proofs.Stages.{judged-unique}
 use Rattle.hall.proofs.Answers.{answers-unique}
 use Rattle.network.specs.declared.entries.Entries.{Entries}
@@ -59,6 +59,9 @@ check-each-unique which nodes carriers closed list =
 
 pub check-network-unique : (N : Network) → OneAnswer (networkQuestion N)
 check-network-unique N = judged-unique (networkQuestion N)
+
+pub check-moves-unique : (j : Numbers) → OneAnswer (movesQuestion j)
+check-moves-unique j = judged-unique (movesQuestion j)
 
 pub check-job-unique : (j : Numbers) → OneAnswer (checksQuestion j)
 check-job-unique j = judged-unique (checksQuestion j)

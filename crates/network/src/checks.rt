@@ -27,13 +27,13 @@ ghost use Rattle.hall.specs.Stages.{only-at};
 ghost use Rattle.hall.specs.Said.{Judged};
 ghost use Rattle.hall.specs.Refusals.{BadOrder-at};
 ghost use Rattle.hall.specs.Questions.{counts, eachMove, eachOrderPlace};
-ghost use Rattle.hall.specs.Questions.{networkQuestion, checksQuestion, ends, moveEnds};
+ghost use Rattle.hall.specs.Questions.{networkQuestion, movesQuestion, checksQuestion, ends, moveEnds};
 
 // The refusal with a fault at a place.
 pub(crate) fn refused(fault: Fault, place: usize) -> Checked
     ensures { λ r. ⌜ r ≡ Checked.Refused (record { fault = fault; place = place }) ⌝ }
 {
-    Checked::Refused(Refusal { fault, place })
+    Checked::Refused(Refusal::new(fault, place))
 }
 
 // 2: the counts of nodes, lanes, closed nodes, carriers and order places, and the dwell. The lanes' is the
@@ -159,9 +159,9 @@ pub fn check_place(carriers: usize, order: &[u16], place: Place) -> Checked
     Checked::Sound
 }
 
-// A whole job: its counts and its dwell (2), its lanes (3), its closed nodes (12), its moves one after the
-// other (4, 5 and 13), its order (7).
-pub fn check_job(
+// A job up to its order's entries: its counts and its dwell (2), its lanes (3), its closed nodes (12), its
+// moves one after the other (4, 5 and 13). Of the order only the length is looked at.
+pub fn check_moves(
     nodes: usize,
     lanes: &[u16],
     closed: &[u16],
@@ -170,7 +170,7 @@ pub fn check_job(
     dwell: usize,
 ) -> Checked
     ensures { λ r. ⌜ Judged
-        (checksQuestion
+        (movesQuestion
         (jobOf
         (networkOf nodes (now (lanes .entry)) (now (closed .entry)))
         (now (moves .entry))
@@ -198,7 +198,29 @@ pub fn check_job(
     if let Checked::Refused(_) = told {
         return told;
     }
-    told = check_each(Entries::Moves, nodes, carriers, closed, moves);
+    check_each(Entries::Moves, nodes, carriers, closed, moves)
+}
+
+// A whole job: the same, then its order (7).
+pub fn check_job(
+    nodes: usize,
+    lanes: &[u16],
+    closed: &[u16],
+    moves: &[u16],
+    order: &[u16],
+    dwell: usize,
+) -> Checked
+    ensures { λ r. ⌜ Judged
+        (checksQuestion
+        (jobOf
+        (networkOf nodes (now (lanes .entry)) (now (closed .entry)))
+        (now (moves .entry))
+        (now (order .entry))
+        dwell))
+        r ⌝ }
+{
+    let carriers = moves.len() / 2;
+    let told = check_moves(nodes, lanes, closed, moves, order, dwell);
     if let Checked::Refused(_) = told {
         return told;
     }
@@ -212,7 +234,7 @@ pub fn check_network(nodes: usize, lanes: &[u16], closed: &[u16]) -> Checked
         (networkQuestion (networkOf nodes (now (lanes .entry)) (now (closed .entry))))
         r ⌝ }
 {
-    check_job(nodes, lanes, closed, &[], &[], 0)
+    check_moves(nodes, lanes, closed, &[], &[], 0)
 }
 
 // A network and one move, whose place is 0: 2, 3, 12, then 4, 5 and 13.

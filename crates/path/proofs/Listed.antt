@@ -23,7 +23,7 @@ use Rattle.hall.specs.Numbers.{numberOf}
 use Rattle.hall.specs.Stages.{First, None, asked}
 use Rattle.hall.specs.Said.{Judged}
 use Rattle.hall.specs.Questions.{unfit, moveEnds, moveQuestion, listOfMove}
-use Rattle.hall.proofs.Walks.{begins-on-node, reverse, dist-unique, lanes-symmetric}
+use Rattle.hall.proofs.Walks.{begins-on-node, reverse, dist-unique, lanes-symmetric, marked-none}
 use Rattle.hall.proofs.Paths.{to-goal}
 use Rattle.hall.proofs.Lowest.{dec-and, dec-not, Lowest, found, nowhere, lowest-below}
 use Rattle.hall.proofs.Decide.{lane?, open?, joined-or-not}
@@ -32,7 +32,6 @@ use Rattle.hall.proofs.Compose.{none-at-all, none-append, first-after, none-spl
 use Rattle.hall.proofs.Places.{asked-here, asked-clear, none-asked}
 use Rattle.path.specs.Paths.{Unfit, Passes}
 use Rattle.path.specs.Steps.{Downhill, Walks, AllOnWay}
-use Rattle.path.proofs.SoundMove.{marked-none}
 use Rattle.path.proofs.Downhill.{row-distance, start-distance}
 
 -- ---- whether a list walks can be decided

@@ -3,9 +3,8 @@
 use lib.ListN.{getD}
 use borrow.Author.Needs.{needs}
 use Rattle.hall.specs.Floor.{DistanceIs, networkOf, floor}
-use Rattle.hall.proofs.Walks.{true-distance}
+use Rattle.hall.proofs.Walks.{true-distance, marked-none}
 use Rattle.walk.proofs.WalkRow.{rowed-served}
-use Rattle.path.proofs.SoundMove.{marked-none}
 use Rattle.asks.proofs.cut_off.Statement.{statement}
 use Rattle.asks.proofs.cut_off.Tie as tie
 

@@ -11,7 +11,8 @@ use Rattle.hall.specs.Questions.{moveEnds}
 use Rattle.hall.proofs.Compose.{judged-stop, sound-none}
 use Rattle.walk.specs.Row.{RowFilled}
 use Rattle.walk.proofs.WalkRow.{rowed-served}
-use Rattle.path.proofs.SoundMove.{few-nodes, start-node, goal-node, not-both, walk-missing, walk-there}
+use Rattle.network.proofs.SoundMove.{MoveSound, move-sound}
+use Rattle.path.proofs.Reached.{not-both, walk-missing, walk-there}
 use Rattle.path.proofs.check_reached.Statement.{statement}
 use Rattle.path.proofs.check_reached.Tie as tie
 
@@ -28,6 +29,13 @@ checks-sound c =
     sound-none (moveEnds (network start) (start .args .start) (start .args .goal))
     (c .enum-told2 .given .1) (called .check-move .ensures)
 
+-- and what that says of the move
+passed : (c : tie.After-enum-told2) → let start = c .before .before .before .before .before .before in
+    MoveSound (network start) (start .args .start) (start .args .goal)
+passed c =
+    let start = c .before .before .before .before .before .before in
+    move-sound (network start) (start .args .start) (start .args .goal) (checks-sound c)
+
 -- so the walk has filled the row
 row-filled : (c : tie.After-slice-known3) →
     let start = c .before .before .before .before .before .before .before .before .before .before .before in
@@ -37,11 +45,11 @@ row-filled c =
     let walked = c .before .before .before in
     let told = walked .before .before in
     let start = told .before .before .before .before .before .before in
-    let few = few-nodes (network start) (start .args .start) (start .args .goal) (checks-sound told) in
+    let few = passed told .few-nodes in
     rowed-served
     (record {
       few = few;
-      numbered = goal-node (network start) (start .args .start) (start .args .goal) (checks-sound told);
+      numbered = passed told .goal-open .numbered;
       wide = omega (arith, few, start .pre);
     })
     (walked .distances .ensures) .1
@@ -78,9 +86,7 @@ slice-read-distance : tie.Need-slice-read-distance
 slice-read-distance c =
     let told = c .before .before .before .before .before in
     let start = told .before .before .before .before .before .before in
-    let numbered = start-node (network start) (start .args .start) (start .args .goal) (checks-sound told) in
-    let few = few-nodes (network start) (start .args .start) (start .args .goal) (checks-sound told) in
-    omega (arith, numbered, few, row-filled c .size, start .pre)
+    omega (arith, passed told .start-open .numbered, passed told .few-nodes, row-filled c .size, start .pre)
 
 same-length : tie.Need-same-length
 same-length c = search needs
