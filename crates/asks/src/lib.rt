@@ -55,10 +55,7 @@ fn check_reach(nodes: usize, lanes: &[u16], closed: &[u16], moves: &[u16]) -> Ch
         let start = moves[at];
         let goal = moves[at + 1];
         if cut_off(nodes, lanes, closed, start, goal) {
-            return Checked::Refused(Refusal {
-                fault: Fault::Unreachable,
-                place: i,
-            });
+            return Checked::Refused(Refusal::new(Fault::Unreachable, i));
         }
         i += 1;
     }
@@ -71,10 +68,7 @@ fn check_number(carriers: usize, carrier: Carrier) -> Checked
 {
     let number = carrier.0 as usize;
     if number >= carriers {
-        return Checked::Refused(Refusal {
-            fault: Fault::NoCarrier,
-            place: number,
-        });
+        return Checked::Refused(Refusal::new(Fault::NoCarrier, number));
     }
     Checked::Sound
 }
@@ -133,10 +127,7 @@ pub fn house_for(
 {
     let room = path.len();
     if room < Job::NODES {
-        return Housed::Refused(Refusal {
-            fault: Fault::ShortTable,
-            place: 0,
-        });
+        return Housed::Refused(Refusal::new(Fault::ShortTable, 0));
     }
     let asked = check_asked(nodes, lanes, closed, moves, order, dwell, carrier);
     if let Checked::Refused(refusal) = asked {

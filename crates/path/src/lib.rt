@@ -53,10 +53,7 @@ fn check_reached(
     let here = start as usize;
     let distance = row[here];
     if distance == Job::NO_WALK {
-        return Checked::Refused(Refusal {
-            fault: Fault::Unreachable,
-            place: 0,
-        });
+        return Checked::Refused(Refusal::new(Fault::Unreachable, 0));
     }
     Checked::Sound
 }
@@ -148,10 +145,7 @@ pub fn house(
 {
     let room = path.len();
     if room < Job::NODES {
-        return Housed::Refused(Refusal {
-            fault: Fault::ShortTable,
-            place: 0,
-        });
+        return Housed::Refused(Refusal::new(Fault::ShortTable, 0));
     }
     hall::zero::zero_first(path, Job::NODES);
     let mut row: [u16; Job::NODES] = [0; Job::NODES];
@@ -264,6 +258,7 @@ pub fn judge(
     let distance = row[here] as usize;
     let whole = distance + 1;
     let count = list.len();
+    let unfit = Refusal::new(Fault::NotShortest, 0);
     if count == whole {
         if all_on_way(nodes, &row, list) {
             if walks(lanes, start, goal, list) {
@@ -271,10 +266,7 @@ pub fn judge(
             }
         }
     }
-    Checked::Refused(Refusal {
-        fault: Fault::NotShortest,
-        place: 0,
-    })
+    Checked::Refused(unfit)
 }
 
 // Takes the own list where it is a shortest path of the move, the spare where only that is one, and where

@@ -108,10 +108,7 @@ pub fn read_numbers(
         ⌝ }
 {
     if too_short(lanes.len(), closed.len(), moves.len(), order.len()) {
-        return Read::Refused(Refusal {
-            fault: Fault::ShortTable,
-            place: 0,
-        });
+        return Read::Refused(Refusal::new(Fault::ShortTable, 0));
     }
     let answer = read_text(text, lanes, closed, moves, order);
     if let Read::Refused(_) = answer {

@@ -27,10 +27,7 @@ pub enum Progress {
 pub(crate) fn refused(fault: Fault, here: Cursor) -> Progress
     ensures { λ r. ⌜ r ≡ Progress.Refused (record { fault = fault; place = here .line }) ⌝ }
 {
-    Progress::Refused(Refusal {
-        fault,
-        place: here.line,
-    })
+    Progress::Refused(Refusal::new(fault, here.line))
 }
 
 // The numbers of entry k, from its line into the table.

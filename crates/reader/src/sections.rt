@@ -188,10 +188,7 @@ pub(crate) fn at_end(text: &[u8], progress: Progress) -> Read
         Progress::On(job, here) => {
             let at = here.at;
             if at < text.len() {
-                return Read::Refused(Refusal {
-                    fault: Fault::Malformed,
-                    place: here.line,
-                });
+                return Read::Refused(Refusal::new(Fault::Malformed, here.line));
             }
             Read::Job(job)
         }

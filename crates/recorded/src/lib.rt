@@ -56,10 +56,7 @@ pub fn read_beside(
         (saidRead r) ⌝ }
 {
     if records < Job::CARRIERS {
-        return Read::Refused(Refusal {
-            fault: Fault::ShortTable,
-            place: 0,
-        });
+        return Read::Refused(Refusal::new(Fault::ShortTable, 0));
     }
     read_numbers(text, lanes, closed, moves, order)
 }

@@ -162,10 +162,7 @@ pub fn write_numbers(
         (saidWritten r) ⌝ }
 {
     if out.len() < Job::TEXT_BYTES {
-        return Written::Refused(Refusal {
-            fault: Fault::ShortTable,
-            place: 0,
-        });
+        return Written::Refused(Refusal::new(Fault::ShortTable, 0));
     }
     let checked = check_job(nodes, lanes, closed, moves, order, dwell);
     if let Checked::Refused(refusal) = checked {

@@ -10,11 +10,14 @@ use Rattle.asks.proofs.check_number.Tie as tie
 cast-number : tie.Need-cast-number
 cast-number c = search needs
 
+new-requires : tie.Need-new-requires
+new-requires c κs = search needs
+
 returns : tie.Need-returns
-returns c = asked-here (omega (arith, c .if1 .taken))
+returns c = rw (c .new .ensures) (asked-here (omega (arith, c .before .if1 .taken)))
 
 returns-2 : tie.Need-returns-2
 returns-2 c = asked-clear (λ h. omega (arith, c .if1 .left)) none-at-all
 
 pub check-number-spec : {M : Type 1} → statement M
-check-number-spec = tie.close (tie.spec cast-number returns returns-2)
+check-number-spec = tie.close (tie.spec cast-number new-requires returns returns-2)

@@ -59,15 +59,20 @@ cut-off-requires c κs =
       ends .goals i (omega (arith, there)) .numbered,
     )
 
+new-requires : tie.Need-new-requires Inv-loop μ-loop
+new-requires c κs = search needs
+
 returns : tie.Need-returns Inv-loop μ-loop
 returns c =
-    let called = c .before in
+    let tested = c .before in
+    let called = tested .before in
     let in-loop = called .before .before .before in
     let loop = in-loop .before in
-    let none = affirmed _ (c .if1 .taken) (called .cut-off .ensures) in
+    let none = affirmed _ (tested .if1 .taken) (called .cut-off .ensures) in
     let args = loop .before .before .before .before .args in
     let checks = walkChecks (networkOf (args .nodes) (args .lanes .now) (args .closed .now)) (args .moves .now) in
-    first-here (each-first checks (in-loop .loop-test .taken) (loop .loop .inv .2) (here (refl, none)))
+    rw (c .new .ensures)
+    (first-here (each-first checks (in-loop .loop-test .taken) (loop .loop .inv .2) (here (refl, none))))
 
 add-i : tie.Need-add-i Inv-loop μ-loop
 add-i c = search needs
@@ -102,6 +107,7 @@ check-reach-spec =
     mul-goal
     shared-slice-read-goal
     cut-off-requires
+    new-requires
     returns
     add-i
     loop-less

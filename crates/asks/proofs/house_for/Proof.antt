@@ -40,17 +40,21 @@ carrier-below c =
     let begin = c .before .before .before .before .before .before .before .before .before in
     carrier-there (job begin) (begin .args .carrier .0) (asked-sound c)
 
+new-requires : tie.Need-new-requires
+new-requires c κs = search needs
+
 returns : tie.Need-returns
 returns c =
-    let begin = c .before .before .before .before .before .before in
+    let begin = c .before .before .before .before .before .before .before in
     let j = job begin in
     let n = begin .args .carrier .0 in
-    record {
+    rw (c .new .ensures)
+    (record {
       given =
           left-short (askedQuestion j n) (j .network) (start j n) (goal j n)
-          (begin .args .path .now) (omega (arith, c .if1 .taken));
+          (begin .args .path .now) (omega (arith, c .before .if1 .taken));
       job-kept = refl;
-    }
+    })
 
 check-asked-requires : tie.Need-check-asked-requires
 check-asked-requires c κs = search needs
@@ -133,6 +137,7 @@ pub house-for-spec : {M : Type 1} → statement M
 house-for-spec =
     tie.close
     (tie.spec
+    new-requires
     returns
     check-asked-requires
     enum-known-asked

@@ -88,13 +88,17 @@ slice-read-distance c =
     let start = told .before .before .before .before .before .before in
     omega (arith, passed told .start-open .numbered, passed told .few-nodes, row-filled c .size, start .pre)
 
+new-requires : tie.Need-new-requires
+new-requires c κs = search needs
+
 same-length : tie.Need-same-length
 same-length c = search needs
 
 returns-2 : tie.Need-returns-2
 returns-2 c =
-    let sound = checks-sound (c .before .before .before .before .before .before) in
-    walk-missing _ _ _ sound (row-filled (c .before)) (c .if1 .taken)
+    let tested = c .before in
+    let sound = checks-sound (tested .before .before .before .before .before .before) in
+    rw (c .new .ensures) (walk-missing _ _ _ sound (row-filled (tested .before)) (tested .if1 .taken))
 
 same-length-2 : tie.Need-same-length-2
 same-length-2 c = search needs
@@ -116,6 +120,7 @@ check-reached-spec =
     distances-requires
     mul-distance
     slice-read-distance
+    new-requires
     same-length
     returns-2
     same-length-2

@@ -20,15 +20,19 @@ network c = networkOf (c .args .nodes) (c .args .lanes .now) (c .args .closed .n
 abbrev question : tie.Start → Question
 question c = moveQuestion (network c) (c .args .start) (c .args .goal)
 
+new-requires : tie.Need-new-requires
+new-requires c κs = search needs
+
 returns : tie.Need-returns
 returns c =
-    let start = c .before .before .before .before in
-    record {
+    let start = c .before .before .before .before .before in
+    rw (c .new .ensures)
+    (record {
       given =
           left-short (question start) (network start) (start .args .start) (start .args .goal)
-          (start .args .path .now) (c .if1 .taken);
+          (start .args .path .now) (c .before .if1 .taken);
       network-kept = refl;
-    }
+    })
 
 zero-first-requires : tie.Need-zero-first-requires
 zero-first-requires c κs = search needs
@@ -100,6 +104,7 @@ pub house-spec : {M : Type 1} → statement M
 house-spec =
     tie.close
     (tie.spec
+    new-requires
     returns
     zero-first-requires
     slice-aggregate-check-reached

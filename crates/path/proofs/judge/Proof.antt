@@ -74,11 +74,14 @@ cast-distance c = omega (arith, start-small (row-downhill c))
 add-whole : tie.Need-add-whole
 add-whole c = omega (arith, start-small (row-downhill c))
 
+new-requires : tie.Need-new-requires
+new-requires c κs = search needs
+
 slice-aggregate-all-on-way : tie.Need-slice-aggregate-all-on-way
 slice-aggregate-all-on-way c = search needs
 
 all-on-way-requires : tie.Need-all-on-way-requires
-all-on-way-requires c κs = row-downhill (c .before .before) .wide
+all-on-way-requires c κs = row-downhill (c .before .before .before) .wide
 
 walks-requires : tie.Need-walks-requires
 walks-requires c κs = search needs
@@ -87,7 +90,7 @@ returns-2 : tie.Need-returns-2
 returns-2 c =
     let stood = c .before .before in
     let length-test = stood .before .before .before in
-    let sound = length-test .before in
+    let sound = length-test .before .before in
     let stands = affirmed _ (stood .if2 .taken) (stood .before .all-on-way .ensures) in
     let walks = affirmed _ (c .if3 .taken) (c .before .walks .ensures) in
     record {
@@ -100,32 +103,37 @@ returns-2 c =
 
 returns-3 : tie.Need-returns-3
 returns-3 c =
-    let sound = c .before .before .before .before .before .before in
+    let built = c .before .before .before .before .before .before in
+    let sound = built .before in
     let strays = denied _ (c .if3 .left) (c .before .walks .ensures) in
-    record {
+    rw (built .new .ensures)
+    (record {
       judged = list-unfit _ _ _ _ (move-sound sound) (row-downhill sound) (λ h. strays (h .2));
       network-kept = refl;
       list-kept = refl;
-    }
+    })
 
 returns-4 : tie.Need-returns-4
 returns-4 c =
-    let sound = c .before .before .before .before in
+    let built = c .before .before .before .before in
+    let sound = built .before in
     let off-way = denied _ (c .if2 .left) (c .before .all-on-way .ensures) in
-    record {
+    rw (built .new .ensures)
+    (record {
       judged = list-unfit _ _ _ _ (move-sound sound) (row-downhill sound) (λ h. off-way (h .1));
       network-kept = refl;
       list-kept = refl;
-    }
+    })
 
 returns-5 : tie.Need-returns-5
 returns-5 c =
-    let sound = c .before in
-    record {
+    let sound = c .before .before in
+    rw (c .before .new .ensures)
+    (record {
       judged = list-unfit _ _ _ _ (move-sound sound) (row-downhill sound) (λ h. c .if1 .left (h .0));
       network-kept = refl;
       list-kept = refl;
-    }
+    })
 
 pub judge-spec : {M : Type 1} → statement M
 judge-spec =
@@ -140,6 +148,7 @@ judge-spec =
     array-read-distance
     cast-distance
     add-whole
+    new-requires
     slice-aggregate-all-on-way
     all-on-way-requires
     walks-requires

@@ -26,8 +26,13 @@ enough c =
 too-short-requires : tie.Need-too-short-requires
 too-short-requires c κs = search needs
 
+new-requires : tie.Need-new-requires
+new-requires c κs = search needs
+
 returns : tie.Need-returns
-returns c = read-short _ _ _ _ _ (rw (c .if1 .taken) at (c .before .too-short .ensures))
+returns c =
+    let tested = c .before in
+    rw (c .new .ensures) (read-short _ _ _ _ _ (rw (tested .if1 .taken) at (tested .before .too-short .ensures)))
 
 read-text-requires : tie.Need-read-text-requires
 read-text-requires c κs = enough (c .before .before .before .before)
@@ -89,6 +94,7 @@ read-numbers-spec =
     tie.close
     (tie.spec
     too-short-requires
+    new-requires
     returns
     read-text-requires
     enum-told

@@ -7,8 +7,11 @@ use Rattle.recorded.specs.Loading.{few, enough}
 use Rattle.recorded.proofs.read_beside.Statement.{statement}
 use Rattle.recorded.proofs.read_beside.Tie as tie
 
+new-requires : tie.Need-new-requires
+new-requires c κs = search needs
+
 returns : tie.Need-returns
-returns c = few _ (c .if1 .taken) refl refl refl refl refl
+returns c = rw (c .new .ensures) (few _ (c .before .if1 .taken) refl refl refl refl refl)
 
 read-numbers-requires : tie.Need-read-numbers-requires
 read-numbers-requires c κs = search needs
@@ -33,6 +36,7 @@ pub read-beside-spec : {M : Type 1} → statement M
 read-beside-spec =
     tie.close
     (tie.spec
+    new-requires
     returns
     read-numbers-requires
     same-length

@@ -17,10 +17,13 @@ job c =
     (c .args .order .now)
     (c .args .dwell)
 
+new-requires : tie.Need-new-requires
+new-requires c κs = search needs
+
 returns : tie.Need-returns
 returns c =
-    let begin = c .before .before .before .before .before .before in
-    short-refused (job begin) (begin .args .out .now) (omega (arith, c .if1 .taken))
+    let begin = c .before .before .before .before .before .before .before in
+    rw (c .new .ensures) (short-refused (job begin) (begin .args .out .now) (omega (arith, c .before .if1 .taken)))
 
 check-job-requires : tie.Need-check-job-requires
 check-job-requires c κs = search needs
@@ -71,6 +74,7 @@ pub write-numbers-spec : {M : Type 1} → statement M
 write-numbers-spec =
     tie.close
     (tie.spec
+    new-requires
     returns
     check-job-requires
     enum-known-checked

@@ -8,8 +8,14 @@ use Rattle.reader.proofs.sections.at_end.Tie as tie
 enum-known-progress : tie.Need-enum-known-progress
 enum-known-progress c = search needs
 
+new-requires : tie.Need-new-requires
+new-requires c κs = search needs
+
 returns : tie.Need-returns
-returns c = rw (c .before .before .progress .given .1) (end-lacks _ (c .before .before .progress .given .0 .0) _ (c .if1 .taken))
+returns c =
+    let tested = c .before in
+    let told = tested .before .before .progress .given in
+    rw (told .1, c .new .ensures) (end-lacks _ (told .0 .0) _ (tested .if1 .taken))
 
 enum-known-progress-2 : tie.Need-enum-known-progress-2
 enum-known-progress-2 c = search needs
@@ -22,4 +28,4 @@ returns-3 c = rw (c .before .progress2 .given .1) refl
 
 pub at-end-spec : {M : Type 1} → statement M
 at-end-spec =
-    tie.close (tie.spec enum-known-progress returns enum-known-progress-2 returns-2 returns-3)
+    tie.close (tie.spec enum-known-progress new-requires returns enum-known-progress-2 returns-2 returns-3)
