@@ -1,7 +1,7 @@
 // Paths of one move: the house path, the question about one list, and the
-// choice between two lists. Each can be asked with a network and a move; the
-// first two also with a whole job and a carrier number, and then every check
-// of the job comes first, its refusal 8 for any carrier included.
+// choice between two lists. All three take a network and a move. The first two
+// also take a job and one of its carriers by number, and then every check of
+// the job comes first, its refusal 8 for any carrier included.
 
 use crate::job::{refuse, Hall, Job, Move, Refusal};
 use crate::network::Network;
@@ -76,8 +76,8 @@ pub enum Choice {
     Neither,
 }
 
-/// The drive shop's own list if it is a shortest path, otherwise the spare if
-/// that is one. A faulty network or move passes no list.
+/// The drive shop's own list where it is a shortest path; failing that, the
+/// spare where it is one. A faulty network or move passes no list.
 pub fn choose(hall: &Hall, asked: Move, own: &[u16], spare: &[u16]) -> Choice {
     if judge_for_move(hall, asked, own).is_ok() {
         Choice::Own

@@ -1,5 +1,5 @@
-// The plan of a job: carriers get their ticks in order, each the smallest
-// tick from 0 up that the rule permits against every carrier placed before.
+// The plan of a job: carriers get their ticks in order, each the least tick,
+// counted from 0, that the rule permits against all at the places before it.
 // The search tries tick after tick and asks the rule about each earlier
 // carrier anew. This is the rules' own sentence, and quick enough.
 

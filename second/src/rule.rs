@@ -1,6 +1,6 @@
-// The safe-delay rule for a pair of carriers (section 4 of the rules), one for
-// all dwells, in signed 64-bit numbers, and the distances between starts and
-// goals that it needs.
+// The pair rule (section 4 of the rules): which delay between two carriers is
+// safe. It is one for all dwells, in signed 64-bit numbers; the distances
+// between starts and goals that it needs stand here too.
 // The rule is a test of one difference of ticks. It hands out no stretches,
 // so that nothing about free ticks between them can go wrong here.
 

@@ -120,8 +120,8 @@ fn paths(checks: &mut Checks) {
 }
 
 /// The kinds with a text tell the same, and of a text that is not read the
-/// refusal alone. The house path and the question about one list together are
-/// two answers.
+/// refusal alone. Where the question about one list follows the house path,
+/// there are two answers.
 fn texts(checks: &mut Checks) {
     let asked = Move { start: 0, goal: 2 };
     let choice = |own: &[u16], spare: &[u16], text: &str| {

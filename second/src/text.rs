@@ -179,7 +179,7 @@ impl<'a> Lines<'a> {
         Ok(dwell)
     }
 
-    /// Bytes after the last line are a fault of form at the line they open.
+    /// Bytes behind the last line are refusal 1, at the line that they begin.
     fn end(&mut self) -> Result<(), Refusal> {
         self.number += 1;
         if self.rest.is_empty() {

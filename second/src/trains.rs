@@ -1,4 +1,4 @@
-// Trains: carrier after carrier from one lift into one chute, in small halls
+// Trains: carriers that all have one lift and one chute, in small halls
 // and at the limit of 1,024 nodes, in the order of the numbers and shuffled.
 // Then lifts and chutes that many carriers share in other ways: one lift into
 // many chutes, many lifts into one chute, two trains against each other, and

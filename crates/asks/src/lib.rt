@@ -73,7 +73,7 @@ fn check_number(carriers: usize, carrier: Carrier) -> Checked
     Checked::Sound
 }
 
-// A job and a carrier number: the listed checks of the job, 8 for the lowest carrier number, then 10.
+// A job and a carrier number: the listed checks of the job, 8 by rising carrier number, and last 10.
 pub fn check_asked(
     nodes: usize,
     lanes: &[u16],

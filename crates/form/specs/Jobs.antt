@@ -10,7 +10,7 @@
 --     wholeJob       a job without an odd last number of its moves, which is in no move (rule 1.7);
 --                    `wholeMoves` its moves. Its text is that of the job
 --     WrittenJob     the text is the written form of the job, which has no fault of its listed checks. A
---                    line of a move has a start and a goal, so the numbers of its moves go by twos
+--                    line of a move holds a start and a goal, so the numbers of its moves go by twos
 --                    (`paired`); from numbers an odd last number is in no move (rule 1.7), and no check asks
 --                    for this
 --     ReadsJob       what a job text says: accepted, with the job; or refused, with the number and the line

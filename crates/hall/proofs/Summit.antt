@@ -6,7 +6,7 @@
 -- Demand.antt that it is safe. Assumes nothing.
 --     RefusedOnce     the job has a first fault, with its number and place, and no other
 --     PlannedOnce     the job has no fault; it has a plan, and no other; the plan is within the limits; each
---                     carrier has a shortest path, and for every choice of shortest paths demand 3 holds
+--                     carrier has a shortest path, and whatever shortest paths are taken demand 3 holds
 use mathlib.Core.Path.{_≡_}
 use mathlib.Core.Logic.{_⊎_, inl, inr}
 use mathlib.Core.List.{List}

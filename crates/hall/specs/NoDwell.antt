@@ -5,13 +5,13 @@
 -- proofs/DwellLimits.antt).
 --     PlainForbidden     D is forbidden: a walk joins the starts, the gap is 0 or less, D lies from minus the
 --                        lead of j to the lead of i, and the exception does not hold
---     PlainStartTicks    each carrier in the order's turn has the smallest tick, from 0 up, that is forbidden
---                        against none of those before it
+--     PlainStartTicks    each carrier in the order's turn has the least tick, counted from 0, that is
+--                        forbidden against none of those before it
 --     PlainAt            a carrier is on the floor from its start tick to its goal tick, a lane a tick
 --     PlainMeet, PlainCross    of two such carriers; PlainApart they do neither
 --     PlainDemand3       demand 3: no two meet or cross; each stands at its goal exactly its distance after
 --                        its start and at no other tick; it is on the floor until then; the first starts at
---                        0, and no other later than one tick after the latest goal tick before it
+--                        0, and no other more than one tick behind the latest goal tick before it
 --     PlainWithin        start ticks of at most 64,512, goal ticks of at most 65,535, a cost of at most
 --                        4,194,240
 use mathlib.Core.Path.{_≡_}

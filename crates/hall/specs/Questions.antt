@@ -27,9 +27,9 @@
 --     writing            9, then the listed checks of the job; no walk is asked for
 --     moveEnds           2, 3, 12, 4, 5, 13: a network and one move, whose place is 0
 --     moveQuestion       the same with 8
---     houseOfMove, listOfMove    the house path and the question about one list, with a network and a move
+--     houseOfMove, listOfMove    house path, question about one list: of a network and a move
 --     askedQuestion      a job and a carrier number: those of the job, then 10
---     houseOfJob, listOfJob      the house path and the question about one list, with a job and a carrier
+--     houseOfJob, listOfJob      house path, question about one list: of a job and one of its carriers, by
 --                                number
 use mathlib.Core.Path.{_≡_}
 use mathlib.Core.Logic.{_⊎_, _≢_}

@@ -1,4 +1,4 @@
--- The safe-delay rule for a pair (rules 4.1 to 4.12; source document 000, Theorem 5; with dwell, request k):
+-- The pair rule (rules 4.1 to 4.12; source document 000, Theorem 5, on safe delays; with dwell, request k):
 -- i is earlier in the order, j later. The rule sees six distances, the dwell w, which is the number of ticks
 -- that a carrier stands on its goal after its goal tick, and the difference of two start ticks, and nothing
 -- else. What it comes to without dwell, in the words of page 01, is in NoDwell.antt.

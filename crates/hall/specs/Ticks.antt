@@ -10,7 +10,7 @@
 --     pairOf t i j        the six distances of carriers i and j
 --     PermittedAt         the same for the carrier at place q of an order, against those at the places before
 --                         q
---     StartTicks          each carrier in the order's turn has the smallest tick, from 0 up, that every
+--     StartTicks          each carrier in the order's turn has the least tick, counted from 0, that every
 --                         carrier placed before it permits. That the first starts at tick 0 follows:
 --                         `first-at-zero` (proofs/Ticks.antt)
 --     goalTick            start tick plus distance: the tick at which a carrier comes to its goal

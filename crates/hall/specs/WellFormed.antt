@@ -19,7 +19,7 @@ pub record WellFormedNetwork (N : Network) : Type 0 where
   -- 1 to 1,024 nodes; two numbers a lane, and at most 4,096 lanes
   pub node-count : (1 ≤ N .nodes) × (N .nodes ≤ nodeLimit)
   pub lane-count : (length (N .lanes) % 2 ≡ 0) × (laneCount (N .lanes) ≤ laneLimit)
-  -- a lane joins two different nodes and stands as (lower, higher)
+  -- the ends of a lane are nodes that differ, the lower one first
   pub lane : (k : ℕ) → k < laneCount (N .lanes) →
       (lower (N .lanes) k < higher (N .lanes) k) × (higher (N .lanes) k < N .nodes)
   -- of any two lanes the later exceeds the earlier

@@ -1,4 +1,4 @@
-// Every question that takes a whole job, with the carriers' records lent as one list by carrier number:
+// Every question that takes a whole job, with a lent list of the carriers' records, by carrier number:
 // reading a job text into lent tables, writing a job as its text, planning, and the questions about one
 // carrier's path. Each takes every input. These functions are thin: all but reading carry the records to a
 // local list of numbers, each asks a function on numbers, and reading and planning write its answer into the

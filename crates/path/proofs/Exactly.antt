@@ -1,5 +1,5 @@
--- What each answer tells, exactly, from the promises as they stand. The house path and the question about one
--- list are refused with a number at a place exactly if that is the first fault of their question (hall's
+-- What each answer tells, exactly, from the promises as they stand. The question about one list and the house
+-- path are refused with a number at a place exactly if that is the first fault of their question (hall's
 -- `refused-exactly`), and accepted exactly if there is none. The choice is the own list exactly if that
 -- passes, the spare exactly if only the spare does, and an empty part exactly if neither does. A list that
 -- passes has a node at least; the empty part of an empty own list is that list itself, so the choice of a

@@ -1,6 +1,6 @@
 -- The house path as it is laid, node after node. So far `at` lanes are laid and `left` are left to the goal;
--- each node laid is at its distance to the goal, and each step went to the lowest-numbered neighbour whose
--- distance is one less. One step more keeps this, since no place laid before changes. At the goal nothing is
+-- each node laid is at its distance to the goal, and each step went to the lowest of the neighbours that
+-- are one lane nearer. One step more keeps this, since no place laid before changes. At the goal nothing is
 -- left, and what is laid is the house path. Assumes nothing.
 --     HouseStep    the step from node x at place k to node y is that of a house path of d lanes
 --     Laying       where the laying stands, at node u

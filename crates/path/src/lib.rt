@@ -232,8 +232,8 @@ fn all_on_way(nodes: usize, row: &[u16], list: &[u16]) -> bool
     true
 }
 
-// Whether a proposed list is a shortest path of a move. It is refused with 11 exactly if it is none, whoever
-// made it; a list that stands on a closed node is none.
+// Whether a proposed list is one of a move's shortest paths. It is refused with 11 exactly if it is none,
+// whoever made it; a list that stands on a closed node is none.
 pub fn judge(
     nodes: usize,
     lanes: &[u16],

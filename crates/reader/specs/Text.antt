@@ -1,6 +1,6 @@
 -- What reading a whole text into long enough tables answers, before a refusal zeroes them (rules 7.6 to
 -- 7.13).
---     Long        no table is shorter than its least length
+--     Long        every table has its least length at least
 --     TextRead    the text writes a job, which is answered and fills the tables; or it is refused. From the
 --                 least lengths on nothing has changed. `TextAnswer` is its part by what is answered
 use mathlib.Core.Path.{_≡_}

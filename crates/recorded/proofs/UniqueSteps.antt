@@ -1,10 +1,10 @@
 -- One outcome fits each promise of the functions on numbers that has a definition of its own. Where so many
 -- records are too few, nothing is touched and 9 is answered; otherwise what reading into numbers promises has
 -- one outcome (reader's `said-unique`). That a table is too short is decided, and then so is how many records
--- are written. `stored_count` promises an equation; the others promise what planning, writing, the house path
--- and the question about one list do, of the moves that are loaded, and the laws of these say that one outcome
--- fits (planner's `planning-unique`, writer's `writing-unique`, path's `left-unique`, hall's `judged-unique`).
--- Assumes nothing.
+-- are written. `stored_count` promises an equation; the others promise what planning, writing, the question
+-- about one list and the house path do, of the moves that are loaded, and the laws of these say that one
+-- outcome fits (planner's `planning-unique`, writer's `writing-unique`, path's `left-unique`, hall's
+-- `judged-unique`). Assumes nothing.
 --     beside-unique    of `read_beside`
 --     placing-unique   of `placed_count`
 use mathlib.Core.Path.{_≡_, sym, _∙_}

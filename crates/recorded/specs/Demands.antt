@@ -1,7 +1,7 @@
 -- What is owed to a caller of planning, said of the answers and of the tables themselves (rules 9.7 to 9.9,
 -- 12.2 and 12.3). Demand 3 is `Demand3` of the crate hall.
 --     Demand2             the distances in the table and in the records are the true ones, over open nodes;
---                         each carrier in the order's turn has the smallest tick, from 0 up, that those
+--                         each carrier in the order's turn has the least tick, counted from 0, that those
 --                         before it permit with the job's dwell; the cost is the sum of the goal ticks, each
 --                         a start tick and a distance
 --     NoEarlierFault      the table is long enough and nothing of the listed checks holds, so that only 8 is

@@ -1,4 +1,4 @@
-// The carriers' records, lent as one list by carrier number (rule 3.10), and the thin functions that carry
+// The carriers' records, in one lent list by carrier number (rule 3.10), and the thin functions that carry
 // them to numbers and back. Each takes every input: it goes as far as the shortest of what it is lent.
 // Nothing here decides: what is to be written, and for how many records, is computed by functions on numbers.
 // Every promise is one equation of the list that is left (specs/Table.antt).

@@ -62,7 +62,7 @@ module _ (N : Network) (moves table : List ℕ) where
   filling-unique false true t u f g = absurd (f .unserved (g .served))
   filling-unique false false t u f g = (refl, f .kept ∙ sym (g .kept))
 
--- of two lowest carriers the first is not below the second
+-- of two lowest carriers the one is not below the other
 not-below : {table : List ℕ} {carriers c c′ : ℕ} → FirstLost table carriers c → FirstLost table carriers c′ → c′ ≤ c
 not-below {c = c} {c′ = c′} a b = cases (decLt c c′)
   where
