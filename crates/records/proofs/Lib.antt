@@ -1,8 +1,5 @@
--- The kit for walks over slices and local arrays (Walk, Calls, Arrays), a record as its element (Table), the
--- lists of the loops (Lists), what callers know (Laws), and one outcome for each input (Unique).
-pub mod Walk
-pub mod Calls
-pub mod Arrays
+-- A record as the element of a slice that a walk goes over (Table), the lists of the loops (Lists), what
+-- callers know (Laws), and one outcome for each input (Unique).
 pub mod Table
 pub mod Lists
 pub mod Laws

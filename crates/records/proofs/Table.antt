@@ -1,7 +1,7 @@
--- A record as the element of a list that is lent: its row, with the laws that `Walk.antt`'s steps ask of an
--- element type. Assumes nothing.
+-- A record as the element of a list that is lent: its row, with the laws that the steps of crate `hand` ask
+-- of an element type. Assumes nothing.
 use denote.Struct.Laws as LL
-use Rattle.records.proofs.Walk.{Elem}
+use Rattle.hand.proofs.Walk.{Elem}
 use Rattle.records.proofs.Record as T
 use Rattle.records.proofs.Record.Laws as T′
 

@@ -1,5 +1,5 @@
 -- Steps of `Types/Kit.antt`'s calculus for a walk that has a local array and lends its first n elements as a
--- slice: those of records/proofs/Arrays.antt for a front and not for the whole. What is behind the front
+-- slice: those of hand/proofs/Arrays.antt for a front and not for the whole. What is behind the front
 -- stays with the lender, beside what comes back later.
 --     Behind           the elements behind the first n
 --     lends-front      [the elements; …] → [own of a `&ν mut [T]` of the first n; ν's token; what comes back
@@ -40,12 +40,12 @@ use denote.Steps.{only, facts}
 use denote.Struct.Laws as LL
 use borrow.Table.Elements.{at, length-take-le, same-len, cut-app, join-app}
 use borrow.Rule.Array.Rows.{partsF}
-use Rattle.records.proofs.Walk.{Elem, ref}
+use Rattle.hand.proofs.Walk.{Elem, ref}
 use Rattle.records.specs.declared.Record.{Record}
 use Rattle.records.proofs.Record as T
 use Rattle.records.proofs.Record.Laws as T′
 use Rattle.records.proofs.Table.{rec}
-use Rattle.records.proofs.Arrays.{lends-array, unlends-array, shares-array, unshares-array}
+use Rattle.hand.proofs.Arrays.{lends-array, unlends-array, shares-array, unshares-array}
 
 abbrev pub Behind : (R : RattleType) (ys : List (R .Denot)) (b o n : ℕ) → Fml
 Behind R ys b o n = cells (mem R) (behind n ys) b (at o (mem R .size) (length (take n ys)))

@@ -44,9 +44,9 @@ use denote.Triple.Table.{entered, cited}
 use denote.Triple.Walked.{says, Stays, stay-dropped, walkOf, goes-dropped, Walks, ends-at, walked, walk-meets}
 use denote.Exit.{yes}
 use Rattle.records.specs.declared.Record.{Record}
-use Rattle.records.proofs.Walk.{num, ref, frees-all, puts}
-use Rattle.records.proofs.Calls.{hands-shr, adds, parts, passes, calls-spec}
-use Rattle.records.proofs.Arrays.{repeated-is, array-opens, array-shuts, lends-array, unlends-array, shares-array, unshares-array}
+use Rattle.hand.proofs.Walk.{num, ref, frees-all, puts}
+use Rattle.hand.proofs.Calls.{hands-shr, adds, parts, passes, calls-spec}
+use Rattle.hand.proofs.Arrays.{repeated-is, array-opens, array-shuts, lends-array, unlends-array, shares-array, unshares-array}
 use Rattle.hall.specs.declared.Checked.{Checked}
 use Rattle.hall.specs.declared.Carrier.{Carrier}
 use Rattle.records.specs.Table.{moved}

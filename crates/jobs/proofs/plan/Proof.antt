@@ -43,9 +43,9 @@ use denote.Triple.Table.{entered, cited}
 use denote.Triple.Walked.{says, Stays, stay-dropped, stay-slice, walkOf, goes-dropped, goes-slice, Walks, ends-at, walked, walk-meets}
 use denote.Exit.{yes}
 use Rattle.records.specs.declared.Record.{Record}
-use Rattle.records.proofs.Walk.{num, ref, frees-all, puts}
-use Rattle.records.proofs.Calls.{lends-mut, unlends-mut, shares-mut, unshares-mut, hands-shr, adds, parts, passes, calls-spec}
-use Rattle.records.proofs.Arrays.{repeated-is, array-opens, array-shuts, lends-array, unlends-array, shares-array, unshares-array}
+use Rattle.hand.proofs.Walk.{num, ref, frees-all, puts}
+use Rattle.hand.proofs.Calls.{lends-mut, unlends-mut, shares-mut, unshares-mut, hands-shr, adds, parts, passes, calls-spec}
+use Rattle.hand.proofs.Arrays.{repeated-is, array-opens, array-shuts, lends-array, unlends-array, shares-array, unshares-array}
 use Rattle.planner.specs.declared.Planned.{Planned}
 use Rattle.records.specs.Table.{moved, timed}
 use Rattle.records.proofs.Laws.{moved-length}

@@ -1,6 +1,6 @@
 -- `load_moves` meets its contract: a walk of its MIR, by hand. How many records have room is what `pairs_in`
 -- promises. Each reference stays whole, beside its token, and one element is taken out for each access
--- (`Walk.antt`), so the loop's invariant names the list that `moves` has once i records are loaded
+-- (`hand/Walk`), so the loop's invariant names the list that `moves` has once i records are loaded
 -- (`Lists.antt`'s `loadTo`), and nothing that is open. The loop counts to the number of pairs, which is its
 -- measure. Assumes nothing.
 use mathlib.Core.Path.{_≡_, refl, ap}
@@ -48,8 +48,8 @@ use Rattle.records.specs.declared.Record.{Record}
 use Rattle.records.specs.Table.{blank, recordAt}
 use Rattle.records.proofs.Record as T
 use Rattle.records.proofs.Record.Laws as T′
-use Rattle.records.proofs.Walk.{num, ref, takes-shr, gives-shr, takes-mut, gives-mut, frees-all, envOf, homes, counted}
-use Rattle.records.proofs.Calls.{parts, passes, calls-spec}
+use Rattle.hand.proofs.Walk.{num, ref, takes-shr, gives-shr, takes-mut, gives-mut, frees-all, envOf, homes, counted}
+use Rattle.hand.proofs.Calls.{parts, passes, calls-spec}
 use Rattle.records.proofs.Table.{rec}
 use Rattle.records.proofs.Lists.{loadTo, load-length, load-step, load-all}
 use Rattle.records.proofs.pairs_in as pairs-in

@@ -1,6 +1,6 @@
 -- `store_times` meets its contract: a walk of its MIR, by hand. How many records have both times is what
 -- `times_in` promises. Each reference stays whole, beside its token, and one element is taken out for each
--- access (`Walk.antt`), so the loop's invariant names the records once i of them are timed (`timed i`), and
+-- access (`hand/Walk`), so the loop's invariant names the records once i of them are timed (`timed i`), and
 -- nothing that is open. The loop counts to that number, which is its measure. Assumes nothing.
 use mathlib.Core.Path.{_≡_, refl, ap}
 use Prim.Native.Nat.{ℕ, suc, _+_, _*_, _<_, _≤_, _^_, min}
@@ -47,8 +47,8 @@ use Rattle.records.specs.declared.Record.{Record}
 use Rattle.records.specs.Table.{blank, recordAt, withTimes, timed}
 use Rattle.records.proofs.Record as T
 use Rattle.records.proofs.Record.Laws as T′
-use Rattle.records.proofs.Walk.{num, ref, takes-shr, gives-shr, takes-mut, gives-mut, frees-all, envOf, homes, counted}
-use Rattle.records.proofs.Calls.{parts, passes, calls-spec}
+use Rattle.hand.proofs.Walk.{num, ref, takes-shr, gives-shr, takes-mut, gives-mut, frees-all, envOf, homes, counted}
+use Rattle.hand.proofs.Calls.{parts, passes, calls-spec}
 use Rattle.records.proofs.Table.{rec}
 use Rattle.records.proofs.Lists.{timed-length, timed-step, timed-all}
 use Rattle.records.proofs.times_in as times-in

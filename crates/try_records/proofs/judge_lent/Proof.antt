@@ -39,9 +39,9 @@ use denote.Triple.Statement.{Triple}
 use denote.Triple.Table.{entered, cited}
 use denote.Triple.Walked.{says, Stays, stay-dropped, walkOf, goes-dropped, Walks, ends-at, walked, walk-meets}
 use denote.Exit.{yes}
-use Rattle.records.proofs.Walk.{ref, frees-all, puts}
-use Rattle.records.proofs.Calls.{hands-shr, adds, parts, passes, calls-spec}
-use Rattle.records.proofs.Arrays.{array-opens, array-shuts}
+use Rattle.hand.proofs.Walk.{ref, frees-all, puts}
+use Rattle.hand.proofs.Calls.{hands-shr, adds, parts, passes, calls-spec}
+use Rattle.hand.proofs.Arrays.{array-opens, array-shuts}
 use Rattle.records.proofs.Table.{rec}
 use Rattle.records.specs.declared.Record.{Record}
 use Rattle.hall.specs.Floor.{networkOf}

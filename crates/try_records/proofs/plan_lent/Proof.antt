@@ -40,9 +40,9 @@ use denote.Triple.Statement.{Triple}
 use denote.Triple.Table.{entered, cited}
 use denote.Triple.Walked.{says, Stays, stay-dropped, stay-slice, walkOf, goes-dropped, goes-slice, Walks, ends-at, walked, walk-meets}
 use denote.Exit.{yes}
-use Rattle.records.proofs.Walk.{ref, frees-all, puts}
-use Rattle.records.proofs.Calls.{lends-mut, unlends-mut, hands-shr, adds, parts, passes, calls-spec}
-use Rattle.records.proofs.Arrays.{array-opens}
+use Rattle.hand.proofs.Walk.{ref, frees-all, puts}
+use Rattle.hand.proofs.Calls.{lends-mut, unlends-mut, hands-shr, adds, parts, passes, calls-spec}
+use Rattle.hand.proofs.Arrays.{array-opens}
 use Rattle.records.proofs.Table.{rec}
 use Rattle.records.specs.declared.Record.{Record}
 use Rattle.hall.specs.Floor.{networkOf}

@@ -1,6 +1,5 @@
 -- Steps of `Types/Kit.antt`'s calculus for walks over slices of any element type, so that a walk keeps each
--- reference whole, beside its token, and takes one element out for one access. Nothing here speaks of
--- records: every crate that walks over a slice imports it.
+-- reference whole, beside its token, and takes one element out for one access.
 --     Elem             an element type with the laws that the steps ask: its row, how its machine values are
 --                      spelled, and that it is Copy and plain
 --     num w            the unsigned integer of w bits

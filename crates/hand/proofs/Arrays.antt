@@ -1,5 +1,4 @@
--- Steps of `Types/Kit.antt`'s calculus for a walk that has a local array and lends it as a slice. Nothing
--- here speaks of records: every crate with such a walk imports it.
+-- Steps of `Types/Kit.antt`'s calculus for a walk that has a local array and lends it as a slice.
 --     array-opens      [the array's cell, written whole; …]  →  [its elements, side by side; …]
 --     array-shuts      the way back
 --     repeated-is      `[x; n]` is the array of n times x
@@ -39,7 +38,7 @@ use denote.Steps.{only, owned, facts}
 use borrow.Table.Owned as O
 use borrow.Rule.Array.Rows.{partsF}
 use borrow.Rule.Array.Share.{share-cells, shared-back}
-use Rattle.records.proofs.Walk.{Elem, ref}
+use Rattle.hand.proofs.Walk.{Elem, ref}
 
 -- n times one element: the relation of `[x; n]`
 module _ (R : RattleType) (x : R .Denot) (u : Val) (is : Is R x (u ∷ [])) where

@@ -1,5 +1,4 @@
 -- Steps of `Types/Kit.antt`'s calculus for a walk that calls functions and lends them its own `&mut` slices.
--- Nothing here speaks of records: every crate with such a walk imports it.
 --     lends-mut        [own of a `&κ mut [T]`; κ's token; …] → [own of a `&ν mut [T]` on the same list; ν's
 --                      token; what comes back later; …], for a new lifetime ν: it is lent again, `&mut *s`
 --     unlends-mut      [ν's token; what comes back later; what the callee says of the last list zs; …] → [own
@@ -53,7 +52,7 @@ use denote.Triple.Spec.{tripleOf}
 use denote.Triple.Statement.{Triple}
 use borrow.Table.Owned as O
 use borrow.Rule.Slice.Reshare.{keptS, sl-reshare, sl-reshare-back}
-use Rattle.records.proofs.Walk.{ref}
+use Rattle.hand.proofs.Walk.{ref}
 
 module _ (R : RattleType) (κ : Lft) (q : Share) (γ : GName) (ν : ℕ) (ys : List (R .Denot)) (b o : ℕ) (vs : List Val) where
   abbrev pub LentOut : GName → Fml

@@ -1,0 +1,7 @@
+-- The steps of a walk, by what is lent.
+--     Walk      an element of a slice, taken out and given back; loops that count; locals that are freed
+--     Calls     a slice that is lent again; a call by contract
+--     Arrays    a local array that is lent as a slice
+pub mod Walk
+pub mod Calls
+pub mod Arrays
