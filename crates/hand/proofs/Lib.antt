@@ -2,6 +2,8 @@
 --     Walk      an element of a slice, taken out and given back; loops that count; locals that are freed
 --     Calls     a slice that is lent again; a call by contract
 --     Arrays    a local array that is lent as a slice
+--     Lent      one struct, taken out and given back
 pub mod Walk
 pub mod Calls
 pub mod Arrays
+pub mod Lent

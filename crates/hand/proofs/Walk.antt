@@ -3,7 +3,7 @@
 --     Elem             an element type with the laws that the steps ask: its row, how its machine values are
 --                      spelled, and that it is Copy and plain
 --     num w            the unsigned integer of w bits
---     ref b o γ ys     the reference value: pointer, ghost name, list
+--     ref b o γ x      the reference value: pointer, ghost name, what lies behind it
 --     takes-shr        [own of a `&κ [T]`; κ's token; …] → [a share of element i's cell, at the address that
 --                      MIR computes; what else was opened; …]
 --     gives-shr        the way back
@@ -61,8 +61,8 @@ pub record Elem : Type 2 where
 abbrev pub num : Width → Elem
 num w = record { row = UInt w; vals = uint-vals w; tells = uint-tells w; copies = λ M 𝓤 H A W. uint-copy 𝓤 H A W w; makes = λ M 𝓤 H A W. uint-makes 𝓤 H A W w }
 
-abbrev pub ref : {X : Type 0} → ℕ → ℕ → GName → List X → RefT (List X)
-ref b o γ ys = record { ptr = (b, o); name = γ; now = ys }
+abbrev pub ref : {X : Type 0} → ℕ → ℕ → GName → X → RefT X
+ref b o γ x = record { ptr = (b, o); name = γ; now = x }
 
 -- what is left of an opened slice while one element is out
 module _ (E : Elem) (κ : Lft) (q : Share) (γ : GName) (ys : List (E .row .Denot)) (b o : ℕ) (vs : List Val) (i : ℕ) (d : E .row .Denot) where
