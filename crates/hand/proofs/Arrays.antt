@@ -1,6 +1,8 @@
 -- Steps of `Types/Kit.antt`'s calculus for a walk that has a local array and lends it as a slice.
 --     array-opens      [the array's cell, written whole; …]  →  [its elements, side by side; …]
 --     array-shuts      the way back
+--     array-shuts-is   the same with the array's relation to its machine value in hand, for a walk that
+--                      copies the array afterwards
 --     repeated-is      `[x; n]` is the array of n times x
 --     puts             brings a cell that is shut back home (`Walk.antt`)
 --     lends-array      [the elements; …] → [own of a `&ν mut [T]`; ν's token; what comes back later; …], for
@@ -58,13 +60,19 @@ module _ {M : Type 1} {𝓤 : URA M} {H : Heap 𝓤} {A : Atoms 𝓤} {K : Type 
       fpack t (List Val) (λ us. fsep (cellRaw fullShare (rawAll (Array (E .row) n .mir)) us b o) (Array (E .row) n .own ys us)) (v ∷ []) $
       use1 W (‵ (arr-parts (shares (E .row)) n .part fullShare ys b o)) (array-apart 𝓤 H A W (E .row) fullShare one n ys b o) $ fsplit t $ drop t $ use1 W (‵ (cells (mem (E .row)) ys b o)) (whole-in 𝓤 H A W (E .row) ys b o) $ s)
 
-  pub array-shuts : K → (E : Elem) (n : ℕ) (ys : List (E .row .Denot)) (b o : ℕ) → length ys ≡ n → Step K W (‵ (fat fullShare (tyArray (lone (E .row .mir)) n) b o (only (array-vals (E .vals) ys))) ∷ Γ) G (‵ (cells (mem (E .row)) ys b o) ∷ Γ) G
+  pub array-shuts-is : K → (E : Elem) (n : ℕ) (ys : List (E .row .Denot)) (b o : ℕ) → length ys ≡ n
+      → (Is (Array (E .row) n) ys (array-vals (E .vals) ys) → Seq K W (‵ (fat fullShare (tyArray (lone (E .row .mir)) n) b o (only (array-vals (E .vals) ys))) ∷ Γ) G)
+      → Seq K W (‵ (cells (mem (E .row)) ys b o) ∷ Γ) G
   unfolding partOf
-  array-shuts t E n ys b o e = step (λ s.
+  array-shuts-is t E n ys b o e k =
       use1 W (‵ (row (E .row) fullShare ys b o)) (whole-out 𝓤 H A W (E .row) ys b o) $ feqI t ℕ (length ys) n e $ fjoin t $ use1 W (‵ (partAt (Array (E .row) n) fullShare ys b o)) (array-whole 𝓤 H A W (E .row) fullShare n ys b o) $
       fpick t (λ vs. fsplit t $ move t (1 ∷ []) $ facts t (Array (E .row) n) (Is (Array (E .row) n)) (shows 𝓤 H A (Array (E .row) n)) ys vs (λ p.
       rewrite t 0 (λ (us : List Val). ‵ (cellRaw fullShare (rawAll (Array (E .row) n .mir)) us b o)) (array-tells (E .row) (E .vals) (E .tells) n ys vs p) refl $
-      use1 W (‵ (fat fullShare (tyArray (lone (E .row .mir)) n) b o (only (array-vals (E .vals) ys)))) (W .laws .raw-at fullShare (tyArray (lone (E .row .mir)) n) b o (only (array-vals (E .vals) ys))) $ s)))
+      use1 W (‵ (fat fullShare (tyArray (lone (E .row .mir)) n) b o (only (array-vals (E .vals) ys)))) (W .laws .raw-at fullShare (tyArray (lone (E .row .mir)) n) b o (only (array-vals (E .vals) ys))) $
+      k (subst (λ (us : List Val). Is (Array (E .row) n) ys us) (array-tells (E .row) (E .vals) (E .tells) n ys vs p) p)))
+
+  pub array-shuts : K → (E : Elem) (n : ℕ) (ys : List (E .row .Denot)) (b o : ℕ) → length ys ≡ n → Step K W (‵ (fat fullShare (tyArray (lone (E .row .mir)) n) b o (only (array-vals (E .vals) ys))) ∷ Γ) G (‵ (cells (mem (E .row)) ys b o) ∷ Γ) G
+  array-shuts t E n ys b o e = step (λ s. array-shuts-is t E n ys b o e (λ _. s))
 
   pub lends-array : K → Soaks G → (R : RattleType) (ys : List (R .Denot)) (b o n : ℕ) → length ys ≡ n → Room R n
       → ((ν : ℕ) (δ : GName) → Seq K W (‵ (MutSlice erased (ν ∷ []) R .own (ref b o δ ys) (sliceVal (b, o) n ∷ [])) ∷ ‵ (flft (ν ∷ []) fullShare) ∷ ‵ (flent (ν ∷ []) (Held R (length ys) b o δ)) ∷ Γ) G)

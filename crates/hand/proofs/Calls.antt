@@ -31,16 +31,16 @@ use ghost.Atoms.{Atoms, sem}
 use sound.WpLaws.{FmC}
 use contract.Monad.{fact}
 use contract.Lifetimes.{Lfts, Shares, AllOutlive, toks}
-use types.Kit.{Goal, Soaks, Given, Item, ‵, raw, _⊛_, some, later, Post, runs, lands, Seq, Step, step, _$_, move, drop, use1, use2, use3, split, join, pick, await, rewrite, fsplit, fjoin, feqL}
+use types.Kit.{Goal, Soaks, Given, Item, ‵, raw, _⊛_, some, later, Post, runs, lands, Seq, Step, step, _$_, move, drop, use1, use2, split, join, pick, await, rewrite, fsplit, fjoin}
 use types.Run.{Opds}
-use types.SemTy.{cells, Arr}
+use types.SemTy.{cells}
 use types.Tokens.{lft-new, lft-end}
 use denote.RattleType.{RattleType, owns, flat}
 use denote.Shadow.{pureL, pureI}
 use denote.Laws.{Is, shows}
 use denote.Memory.{mem}
 use denote.Slice.{sliceVal, MutSlice, ShrSlice, heres, Room, room, finally, at-slice, codedHoleys, shr-slice-copy}
-use denote.Lend.{Held, lends-slice, slice-back}
+use denote.Lend.{Held}
 use denote.Index.{row, whole-in, whole-out, opens-slice, closes-slice}
 use denote.Signature.{typeAt, typesAt}
 use denote.Steps.{heard, facts, owned}
@@ -53,6 +53,7 @@ use denote.Triple.Statement.{Triple}
 use borrow.Table.Owned as O
 use borrow.Rule.Slice.Reshare.{keptS, sl-reshare, sl-reshare-back}
 use Rattle.hand.proofs.Walk.{ref}
+use Rattle.hand.proofs.Arrays.{lends-array, unlends-array}
 
 module _ (R : RattleType) (κ : Lft) (q : Share) (γ : GName) (ν : ℕ) (ys : List (R .Denot)) (b o : ℕ) (vs : List Val) where
   abbrev pub LentOut : GName → Fml
@@ -66,22 +67,20 @@ module _ {M : Type 1} {𝓤 : URA M} {H : Heap 𝓤} {A : Atoms 𝓤} {K : Type 
       → ((ν : ℕ) (δ : GName) → Seq K W (‵ (MutSlice erased (ν ∷ []) R .own (ref b o δ ys) vs) ∷ ‵ (flft (ν ∷ []) fullShare) ∷ ‵ (LentOut R κ q γ ν ys b o vs δ) ∷ Γ) G)
       → Seq K W (‵ (MutSlice erased κ R .own (ref b o γ ys) vs) ∷ ‵ (flft κ q) ∷ Γ) G
   lends-mut t z R {κ} {q} {γ} ys b o {vs} k =
-      lft-new t z (λ ν. move t (1 ∷ 2 ∷ []) $ fsplit t $ pureL t (at-slice R (ref b o γ ys) vs) (λ p. fsplit t $ opens-slice t z R ys b o $
-      use1 W (‵ (cells (mem R) ys b o)) (whole-in 𝓤 H A W R ys b o) $
-      use1 W (later (some (λ (δ : GName). ‵ (MutSlice erased (ν ∷ []) R .own (ref b o δ ys) (sliceVal (b, o) (length ys) ∷ [])) ⊛ ‵ (flent (ν ∷ []) (Held R (length ys) b o δ))))) (lends-slice 𝓤 H A W R erased (ν ∷ []) ys b o (p .1)) $ await t z $ pick t (λ δ. split t $
+      fsplit t $ pureL t (at-slice R (ref b o γ ys) vs) (λ p. fsplit t $ opens-slice t z R ys b o $
+      use1 W (‵ (cells (mem R) ys b o)) (whole-in 𝓤 H A W R ys b o) $ lends-array t z R ys b o (length ys) refl (p .1) (λ ν δ.
       rewrite t 0 (λ (us : List Val). ‵ (MutSlice erased (ν ∷ []) R .own (ref b o δ ys) us)) (sym (p .0)) refl $
-      -- [the new slice; the lender's part at ν; the open borrow at κ; obs; auth; ν's token]
-      pureI t (at-slice R (ref b o γ ys) vs) (tt, (tt, tt)) p $ move t (5 ∷ 0 ∷ []) $ fjoin t $ move t (4 ∷ 0 ∷ []) $ fjoin t $ move t (3 ∷ 0 ∷ []) $ fjoin t $ move t (2 ∷ 0 ∷ []) $ fjoin t $ move t (1 ∷ 2 ∷ 0 ∷ []) $ k ν δ)))
+      -- [the new slice; ν's token; the lender's part at ν; the open borrow at κ; obs; auth]
+      pureI t (at-slice R (ref b o γ ys) vs) (tt, (tt, tt)) p $ move t (6 ∷ 0 ∷ []) $ fjoin t $ move t (5 ∷ 0 ∷ []) $ fjoin t $ move t (4 ∷ 0 ∷ []) $ fjoin t $ move t (3 ∷ 0 ∷ []) $ fjoin t $ move t (1 ∷ 2 ∷ 0 ∷ []) $ k ν δ))
 
   pub unlends-mut : K → Soaks G → (R : RattleType) {κ : Lft} {q : Share} {γ : GName} {ν : ℕ} (ys : List (R .Denot)) (b o : ℕ) {vs : List Val} {δ : GName} (zs : List (R .Denot))
       → (length zs ≡ length ys → Seq K W (‵ (MutSlice erased κ R .own (ref b o γ zs) vs) ∷ ‵ (flft κ q) ∷ Γ) G)
       → Seq K W (‵ (flft (ν ∷ []) fullShare) ∷ ‵ (LentOut R κ q γ ν ys b o vs δ) ∷ ‵ (fsep (finally R δ zs) (feq ℕ (length zs) (length ys))) ∷ Γ) G
   unlends-mut t z R {κ} {q} {γ} {ν} ys b o {vs} {δ} zs k =
-      lft-end t z $ move t (2 ∷ []) $ fsplit t $ move t (1 ∷ []) $ feqL t (λ e. move t (2 ∷ []) $ fsplit t $ move t (1 ∷ []) $ fsplit t $ move t (1 ∷ []) $ fsplit t $ move t (1 ∷ []) $ fsplit t $ move t (1 ∷ []) $ pureL t (at-slice R (ref b o γ ys) vs) (λ p.
-      -- [auth; obs; the open borrow; the lender's part; the last list; dead]
-      move t (5 ∷ 3 ∷ 4 ∷ []) $ use3 W (later (‵ (Arr (mem R) (length ys) .lies zs b o))) (slice-back 𝓤 H A W R (ν ∷ []) δ zs (length ys) b o) $ await t z $ fsplit t $ drop t $ use1 W (‵ (row R fullShare zs b o)) (whole-out 𝓤 H A W R zs b o) $
-      -- [the row; auth; obs; the open borrow]
-      move t (0 ∷ 3 ∷ 2 ∷ 1 ∷ []) $ closes-slice t z R ys zs e b o $
+      move t (1 ∷ []) $ fsplit t $ move t (2 ∷ 0 ∷ 3 ∷ []) $ unlends-array t z R ys b o zs (λ e. use1 W (‵ (row R fullShare zs b o)) (whole-out 𝓤 H A W R zs b o) $
+      move t (1 ∷ []) $ fsplit t $ move t (1 ∷ []) $ fsplit t $ move t (1 ∷ []) $ fsplit t $ move t (1 ∷ []) $ pureL t (at-slice R (ref b o γ ys) vs) (λ p.
+      -- [auth; obs; the open borrow; the row]
+      move t (3 ∷ 2 ∷ 1 ∷ []) $ closes-slice t z R ys zs e b o $
       fjoin t $ pureI t (at-slice R (ref b o γ zs) vs) (tt, (tt, tt)) (p .0 ∙ ap (λ (m : ℕ). sliceVal (b, o) m ∷ []) (sym e), subst (Room R) (sym e) (p .1)) $ fjoin t $ k e))
 
   pub shares-mut : K → Soaks G → (R : RattleType) {κ : Lft} {q : Share} {γ : GName} (ys : List (R .Denot)) (b o : ℕ) {vs : List Val}

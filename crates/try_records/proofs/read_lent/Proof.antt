@@ -42,14 +42,14 @@ use denote.Triple.Walked.{says, Stays, stay-dropped, stay-slice, walkOf, goes-dr
 use denote.Exit.{yes}
 use Rattle.hand.proofs.Walk.{ref, frees-all, puts}
 use Rattle.hand.proofs.Calls.{lends-mut, unlends-mut, hands-shr, adds, parts, passes, calls-spec}
-use Rattle.hand.proofs.Arrays.{array-opens}
+use Rattle.hand.proofs.Arrays.{array-opens, array-shuts-is}
 use Rattle.records.proofs.Table.{rec}
 use Rattle.records.specs.declared.Record.{Record}
 use Rattle.recorded.specs.Reading.{ReadLeft}
 use Rattle.try_columns.specs.Columns.{toldTo}
 use Rattle.try_records.specs.Lent.{LentReading}
 use Rattle.try_records.proofs.Lent.{within-lendable, lends}
-use Rattle.try_records.proofs.Fronts.{lends-front, unlends-front, array-shuts-is, Records, records-typed, records-makes, records-tells, room-within, front-fits}
+use Rattle.try_records.proofs.Fronts.{lends-front, unlends-front, Records, records-typed, records-makes, records-tells, room-within, front-fits}
 use denote.Enum.Laws as EL
 use Rattle.reader.specs.declared.Read.{Read}
 use Rattle.reader.proofs.Read as E₀
