@@ -3,6 +3,8 @@
 --     Elem             an element type with the laws that the steps ask: its row, how its machine values are
 --                      spelled, and that it is Copy and plain
 --     num w            the unsigned integer of w bits
+--     struct-of T      a struct that a crate declares, from what the check writes of it: `the-type`,
+--                      `the-laws`, `the-copy`, `the-plain`
 --     ref b o γ x      the reference value: pointer, ghost name, what lies behind it
 --     takes-shr        [own of a `&κ [T]`; κ's token; …] → [a share of element i's cell, at the address that
 --                      MIR computes; what else was opened; …]
@@ -50,6 +52,9 @@ use denote.Slice.{sliceVal, MutSlice, ShrSlice, heres, Room, at-slice, codedHole
 use denote.Lend.{Held}
 use denote.Index.{place-is, others, elem-out, elem-back, elem-put, opens-slice, closes-slice, looks-slice, shuts-slice}
 use denote.Steps.{owned}
+use denote.Struct.Struct.{Plains}
+use denote.Struct.Declared.{Declared, fields, row as rowOf}
+use denote.Struct.Laws as LL
 
 pub record Elem : Type 2 where
   pub row : RattleType
@@ -60,6 +65,9 @@ pub record Elem : Type 2 where
 
 abbrev pub num : Width → Elem
 num w = record { row = UInt w; vals = uint-vals w; tells = uint-tells w; copies = λ M 𝓤 H A W. uint-copy 𝓤 H A W w; makes = λ M 𝓤 H A W. uint-makes 𝓤 H A W w }
+
+abbrev pub struct-of : (T : Declared) → LL.Laws T → LL.Copyables (T .parts) → Plains (fields T) → Elem
+struct-of T laws copied plain = record { row = rowOf T; vals = LL.vals T laws; tells = LL.tells T laws; copies = λ M 𝓤 H A W. LL.copy T copied 𝓤 H A W; makes = λ M 𝓤 H A W. LL.makes T plain 𝓤 H A }
 
 abbrev pub ref : {X : Type 0} → ℕ → ℕ → GName → X → RefT X
 ref b o γ x = record { ptr = (b, o); name = γ; now = x }
