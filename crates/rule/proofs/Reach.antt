@@ -1,6 +1,6 @@
 -- Ticks on the way to the first one that every held carrier permits. A move to the first tick that one held
 -- carrier permits passes only ticks that this carrier forbids, so none that all permit; and such moves add
--- up. A pass over all held carriers that moves nothing has asked each of them about the same tick, so all
+-- up. A round of all held carriers that moves nothing has asked each of them about the same tick, so all
 -- permit it. No move leaves what one tick, one distance and one dwell of 32 bits make, since a tick past a
 -- carrier's last tick is permitted by it. Assumes nothing.
 use mathlib.Core.Path.{_≡_, subst}
@@ -13,7 +13,7 @@ use lib.ListN.{length}
 use Rattle.hall.specs.Rule.{Pair}
 use Rattle.hall.specs.Ticks.{SmallestFrom, PermittedBy}
 use Rattle.rule.specs.Held.{heldPair, heldTick}
-use Rattle.rule.specs.Reach.{TickReached, PermittedByHeld, PassedOne, Swept}
+use Rattle.rule.specs.Reach.{latestTick, TickReached, PermittedByHeld, PassedOne, RoundMade}
 use Rattle.rule.proofs.Stretch.{Free, free-bound, free-onward}
 
 pub reached-here : (t : ℕ) (Permits : ℕ → Type 0) → TickReached t Permits t
@@ -51,8 +51,8 @@ permitted-by-more w n pair tick x all one p h = cases (decLt p n)
     cases (yes l) = all p l
     cases (no l) = let e : p ≡ n = omega arith in rw e one
 
--- a pass over the held carriers that began at a tick, has asked those before a place, and is now at another
-pub record SweptTo (w : ℕ) (held : List ℕ) (from place tick : ℕ) : Type 0 where
+-- a round of the held carriers that began at a tick, has asked those before a place, and is now at another
+pub record RoundTo (w : ℕ) (held : List ℕ) (from place tick : ℕ) : Type 0 where
   -- no tick that all permit was passed
   pub reached : TickReached from (PermittedByHeld w held (length held / 7)) tick
   -- if nothing moved, each that was asked permits the tick
@@ -60,18 +60,18 @@ pub record SweptTo (w : ℕ) (held : List ℕ) (from place tick : ℕ) : Type 0 
   -- if something moved, a carrier was passed for good
   pub passed : from < tick → PassedOne w held from tick
   -- the sums of the next test fit
-  pub within : tick ≤ 12884901886
+  pub within : tick ≤ latestTick
 
 module _ (w : ℕ) (held : List ℕ) (from : ℕ) where
-  pub sweep-begins : from ≤ 12884901886 → SweptTo w held from 0 from
-  sweep-begins h = record {
+  pub round-begins : from ≤ latestTick → RoundTo w held from 0 from
+  round-begins h = record {
     reached = reached-here from (PermittedByHeld w held (length held / 7));
     still = λ e. permitted-by-none w (heldPair held) (heldTick held) from;
     passed = λ l. absurd (let x : ⊥ = omega arith in x);
     within = h;
   }
 
-  module _ (place tick x : ℕ) (inside : place < length held / 7) (s : SweptTo w held from place tick)
+  module _ (place tick x : ℕ) (inside : place < length held / 7) (s : RoundTo w held from place tick)
       (one : SmallestFrom tick (Free w (heldPair held place) (heldTick held place)) x) where
     still-on : x ≡ from → PermittedByHeld w held (place + 1) from
     still-on e =
@@ -95,29 +95,29 @@ module _ (w : ℕ) (held : List ℕ) (from : ℕ) where
         let e : tick ≡ x = omega (arith, one .not-before) in
         subst (PassedOne w held from) e (s .passed (omega arith))
 
-    pub sweep-on : heldTick held place + heldPair held place .ii + w < 12884901886
-        → SweptTo w held from (place + 1) x
-    sweep-on goal = record {
+    pub round-on : heldTick held place + heldPair held place .ii + w < latestTick
+        → RoundTo w held from (place + 1) x
+    round-on goal = record {
       reached =
           reached-further (s .reached)
           (reached-by-one w (length held / 7) (heldPair held) (heldTick held) place inside one);
       still = still-on;
       passed = λ h. passed-on h (decLt tick x);
-      within = free-bound w (heldPair held place) (heldTick held place) 12884901886 one (s .within) goal;
+      within = free-bound w (heldPair held place) (heldTick held place) latestTick one (s .within) goal;
     }
 
-  pub sweep-ends : {place tick : ℕ}
-      → place ≡ length held / 7 → SweptTo w held from place tick → Swept w held from tick
-  sweep-ends e s = record {
+  pub round-ends : {place tick : ℕ}
+      → place ≡ length held / 7 → RoundTo w held from place tick → RoundMade w held from tick
+  round-ends e s = record {
     reached = s .reached;
     still = λ f. rw e at (s .still f);
     passed = s .passed;
     within = s .within;
   }
 
--- a reached tick that a whole pass does not move is the smallest that all permit
-pub swept-smallest : (w : ℕ) (held : List ℕ) (from tick next : ℕ)
-    → TickReached from (PermittedByHeld w held (length held / 7)) tick → Swept w held tick next → next ≤ tick
+-- a reached tick that a whole round does not move is the smallest that all permit
+pub round-smallest : (w : ℕ) (held : List ℕ) (from tick next : ℕ)
+    → TickReached from (PermittedByHeld w held (length held / 7)) tick → RoundMade w held tick next → next ≤ tick
     → SmallestFrom from (PermittedByHeld w held (length held / 7)) tick
-swept-smallest w held from tick next r s h =
+round-smallest w held from tick next r s h =
     reached-smallest r (s .still (omega (arith, s .reached .not-before)))

@@ -1,8 +1,8 @@
--- How many passes the search for a tick makes. A carrier whose stretch was left behind never holds the tick
--- up again, and a pass that moves the tick leaves behind the stretch of one carrier at least. So the number
--- of held carriers whose stretch ends after the tick falls with every pass that moves it: it is the measure
--- of `first_tick`. It is at most the number k of held carriers, so at most k passes move the tick and one
--- does not. Each pass makes k pair tests, k (k + 1) at most in all. Assumes nothing.
+-- How many rounds the search for a tick makes. A carrier whose stretch was left behind never holds the tick
+-- up again, and a round that moves the tick leaves behind the stretch of one carrier at least. So the number
+-- of held carriers whose stretch ends after the tick falls with every round that moves it: it is the measure
+-- of `first_tick`. It is at most the number k of held carriers, so at most k rounds move the tick and one
+-- does not. Each round makes k pair tests, k (k + 1) at most in all. Assumes nothing.
 use mathlib.Core.Path.{_≡_}
 use mathlib.Core.List.{List}
 use Prim.Native.Nat.{ℕ, zero, suc, _+_, _/_, _≤_, _<_, zero-le}
@@ -65,19 +65,19 @@ module _ (w : ℕ) (held : List ℕ) where
   end p = stretchEnd w (heldPair held p) (heldTick held p)
 
   -- how many held carriers have a stretch that ends after a tick
-  pub waiting : ℕ → ℕ
-  waiting t = total (length held / 7) (λ p. one (decLt t (end p)))
+  pub ahead : ℕ → ℕ
+  ahead t = total (length held / 7) (λ p. one (decLt t (end p)))
 
-  pub waiting-limit : (t : ℕ) → waiting t ≤ length held / 7
-  unfolding waiting
-  waiting-limit t =
+  pub ahead-limit : (t : ℕ) → ahead t ≤ length held / 7
+  unfolding ahead
+  ahead-limit t =
       let after : ℕ → ℕ = λ p. one (decLt t (end p)) in
       let h = total-limit (length held / 7) after 1 (λ p l. one-limit (decLt t (end p))) in omega arith
 
-  -- a pass that moves the tick leaves one more stretch behind
-  pub waiting-falls : (t x : ℕ) → t ≤ x → PassedOne w held t x → waiting x < waiting t
-  unfolding waiting
-  waiting-falls t x h o =
+  -- a round that moves the tick leaves one more stretch behind
+  pub ahead-falls : (t x : ℕ) → t ≤ x → PassedOne w held t x → ahead x < ahead t
+  unfolding ahead
+  ahead-falls t x h o =
       total-less (length held / 7) (λ p. one (decLt x (end p))) (λ p. one (decLt t (end p)))
       (λ p. one-falls (decLt x (end p)) (decLt t (end p)) (λ l. omega arith)) (o .place) (o .inside)
       (one-less (decLt x (end (o .place))) (decLt t (end (o .place))) (λ l. omega (arith, by))

@@ -1,12 +1,11 @@
 // The pair rule (rules 4.1 to 4.9) on plain numbers, and the first tick that it leaves free (rules 5.2 and
 // 5.3). Nothing here refuses: every number of the types is served, and the sums are made in u64, where none
-// of them can overflow. 12,884,901,886 is the largest tick that comes up: one past the latest last tick that
-// a start tick, a distance and a dwell of 32 bits can make. The dwell is a number among the others: one
-// function serves every dwell, 0 too.
+// of them can overflow: no tick comes up that is later than `latestTick` (specs/Reach.antt). The dwell is a
+// number among the others: one function serves every dwell, 0 too.
 //
 // Work of `first_tick` against k held carriers: a carrier moves the tick at most once, since it permits every
-// tick after the move. So at most k sweeps change the tick, one more changes nothing, and each makes k pair
-// tests: k (k + 1) tests at most, 4,032 for the 63 carriers before the last one of a job. That the sweeps are
+// tick after the move. So at most k rounds change the tick, one more changes nothing, and each makes k pair
+// tests: k (k + 1) tests at most, 4,032 for the 63 carriers before the last one of a job. That the rounds are
 // so few is proved: it is the measure of the loop (proofs/Work.antt).
 use hall::Job;
 ghost use Prim.Native.Nat.{_+_, _*_, _/_, _≤_, _<_};
@@ -16,7 +15,7 @@ ghost use denote.Ref.{now};
 ghost use Rattle.hall.specs.Rule.{Forbidden, Permitted, pair6, Answers};
 ghost use Rattle.hall.specs.Ticks.{SmallestFrom, PermittedBy};
 ghost use Rattle.rule.specs.Held.{heldPair, heldTick};
-ghost use Rattle.rule.specs.Reach.{Swept};
+ghost use Rattle.rule.specs.Reach.{latestTick, RoundMade};
 
 // Whether the rule forbids that i starts at ti and j at tj, with additions only. All sums are made before the
 // tests; the mark for "no walk" between the starts is tested first, and then none of them decides (rule 4.5).
@@ -32,7 +31,7 @@ fn forbidden(
     ti: u32,
     tj: u64,
 ) -> bool
-    requires { ⌜ tj ≤ 12884901886 ⌝ }
+    requires { ⌜ tj ≤ latestTick ⌝ }
     ensures { λ r. ⌜ Answers r (Forbidden dwell (pair6 ss gg ii jj ij ji) (pos tj -ℤ pos ti)) ⌝ }
 {
     let starts_goals = ss as u64 + gg as u64;
@@ -113,7 +112,7 @@ fn free_from(
     ti: u32,
     from: u64,
 ) -> u64
-    requires { ⌜ from ≤ 12884901886 ⌝ }
+    requires { ⌜ from ≤ latestTick ⌝ }
     ensures { λ r. ⌜ SmallestFrom
         from
         (λ x. Permitted dwell (pair6 ss gg ii jj ij ji) (pos x -ℤ pos ti))
@@ -142,7 +141,7 @@ fn free_from(
 
 // The same for the carrier that is held at a place.
 fn free_at(held: &[u32], dwell: u32, place: usize, from: u64) -> u64
-    requires { ⌜ (7 * place + 6 < length (now held)) × (from ≤ 12884901886) ⌝ }
+    requires { ⌜ (7 * place + 6 < length (now held)) × (from ≤ latestTick) ⌝ }
     ensures { λ r. ⌜ SmallestFrom
         from
         (λ x. Permitted
@@ -162,10 +161,10 @@ fn free_at(held: &[u32], dwell: u32, place: usize, from: u64) -> u64
     free_from(ss, gg, ii, jj, ij, ji, dwell, ti, from)
 }
 
-// One pass over the held carriers: each moves the tick on to the first that it permits.
-fn sweep(held: &[u32], dwell: u32, from: u64) -> u64
-    requires { ⌜ from ≤ 12884901886 ⌝ }
-    ensures { λ r. ⌜ Swept dwell (now (held .entry)) from r ⌝ }
+// One round of the held carriers: each moves the tick on to the first that it permits.
+fn round(held: &[u32], dwell: u32, from: u64) -> u64
+    requires { ⌜ from ≤ latestTick ⌝ }
+    ensures { λ r. ⌜ RoundMade dwell (now (held .entry)) from r ⌝ }
 {
     let count = held.len() / 7;
     let mut tick = from;
@@ -191,10 +190,10 @@ pub fn first_tick(held: &[u32], dwell: u32, from: u32) -> u64
         r ⌝ }
 {
     let mut tick = from as u64;
-    let mut next = sweep(held, dwell, tick);
+    let mut next = round(held, dwell, tick);
     while tick < next {
         tick = next;
-        next = sweep(held, dwell, tick);
+        next = round(held, dwell, tick);
     }
     tick
 }

@@ -1,4 +1,4 @@
--- `rule::sweep` meets its contract. The invariant (`SweptTo`): the tick stands where the carriers asked so
+-- `rule::round` meets its contract. The invariant (`RoundTo`): the tick stands where the carriers asked so
 -- far have moved it, and if it stands where it began, they all permit it. The measure is the number of
 -- carriers that are still to be asked. Assumes nothing.
 use mathlib.Core.Path.{_≡_, refl}
@@ -6,20 +6,20 @@ use Prim.Native.Nat.{_+_, _*_, _/_, _-_, _≤_}
 use native.Mathlib.Omega.{arith}
 use lib.ListN.{length}
 use Rattle.rule.specs.Held.{heldPair, heldTick}
-use Rattle.rule.proofs.Reach.{SweptTo, sweep-begins, sweep-on, sweep-ends}
-use Rattle.rule.proofs.sweep.Statement.{statement}
-use Rattle.rule.proofs.sweep.Tie as tie
+use Rattle.rule.proofs.Reach.{RoundTo, round-begins, round-on, round-ends}
+use Rattle.rule.proofs.round.Statement.{statement}
+use Rattle.rule.proofs.round.Tie as tie
 
 abbrev Inv-loop : tie.InvT-loop
 Inv-loop held dwell from count tick₀ place₀ tick place =
-    (count ≡ length held / 7) × (place ≤ count) × SweptTo dwell held from place tick
+    (count ≡ length held / 7) × (place ≤ count) × RoundTo dwell held from place tick
 
 abbrev μ-loop : tie.MeasureT-loop
 μ-loop held dwell from count tick₀ place₀ tick place = count - place
 
 loop-holds : tie.Need-loop-holds Inv-loop μ-loop
 loop-holds c =
-    (refl, omega arith, sweep-begins (c .before .args .dwell) (c .before .args .held .now) (c .before .args .from) (c .before .pre))
+    (refl, omega arith, round-begins (c .before .args .dwell) (c .before .args .held .now) (c .before .args .from) (c .before .pre))
 
 free-at-requires : tie.Need-free-at-requires Inv-loop μ-loop
 free-at-requires c κs = omega arith
@@ -39,7 +39,7 @@ loop-again c =
     let args = loop .before .before .args in (
       refl,
       omega arith,
-      sweep-on (args .dwell) (args .held .now) (args .from) place (loop .loop .tick) (c .free-at .result)
+      round-on (args .dwell) (args .held .now) (args .from) place (loop .loop .tick) (c .free-at .result)
           (c .before .loop-test .taken) (loop .loop .inv .2) (c .free-at .ensures)
           (omega (arith, known (7 * place), known (7 * place + 3))),
     )
@@ -47,9 +47,9 @@ loop-again c =
 returns : tie.Need-returns Inv-loop μ-loop
 returns c =
     let args = c .before .before .before .args in
-    sweep-ends (args .dwell) (args .held .now) (args .from) (omega arith) (c .before .loop .inv .2)
+    round-ends (args .dwell) (args .held .now) (args .from) (omega arith) (c .before .loop .inv .2)
 
-pub sweep-spec : {M : Type 1} → statement M
-sweep-spec =
+pub round-spec : {M : Type 1} → statement M
+round-spec =
     tie.close
     (tie.spec Inv-loop μ-loop loop-holds free-at-requires add-place loop-less loop-again returns)
