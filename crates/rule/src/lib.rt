@@ -1,21 +1,26 @@
 // The pair rule (rules 4.1 to 4.9) on plain numbers, and the first tick that it leaves free (rules 5.2 and
-// 5.3). Nothing here refuses: every number of the types is served, and the sums are made in u64, where none
-// of them can overflow: no tick comes up that is later than `latestTick` (specs/Reach.antt). The dwell is a
-// number among the others: one function serves every dwell, 0 too.
+// 5.3), against carriers that stand in one list of numbers. Every number of the types is served; a place that
+// the list does not have is told apart. The sums are made in u64, where none of them can overflow: no tick
+// comes up that is later than `latestTick` (specs/Reach.antt). The dwell is a number among the others: one
+// function serves every dwell, 0 too.
 //
 // Work of `first_tick` against k held carriers: a carrier moves the tick at most once, since it permits every
 // tick after the move. So at most k rounds change the tick, one more changes nothing, and each makes k pair
 // tests: k (k + 1) tests at most, 4,032 for the 63 carriers before the last one of a job. That the rounds are
 // so few is proved: it is the measure of the loop (proofs/Work.antt).
 use hall::Job;
+use hall::Place;
 ghost use Prim.Native.Nat.{_+_, _*_, _/_, _≤_, _<_};
 ghost use lib.IntN.{pos, _-ℤ_};
 ghost use lib.ListN.{length};
 ghost use denote.Ref.{now};
 ghost use Rattle.hall.specs.Rule.{Forbidden, Permitted, pair6, Answers};
 ghost use Rattle.hall.specs.Ticks.{SmallestFrom, PermittedBy};
-ghost use Rattle.rule.specs.Held.{heldPair, heldTick};
+ghost use Rattle.rule.specs.Held.{heldPair, heldTick, Holding};
 ghost use Rattle.rule.specs.Reach.{latestTick, RoundMade};
+
+// So many numbers hold every carrier that a job can have.
+pub const HELD: usize = 7 * Job::CARRIERS;
 
 // Whether the rule forbids that i starts at ti and j at tj, with additions only. All sums are made before the
 // tests; the mark for "no walk" between the starts is tested first, and then none of them decides (rule 4.5).
@@ -196,4 +201,41 @@ pub fn first_tick(held: &[u32], dwell: u32, from: u32) -> u64
         next = round(held, dwell, tick);
     }
     tick
+}
+
+// Writes a carrier at its place in the held list: its start tick, then the six distances of its pair with the
+// new one. Whether it was written: where the list has no seven numbers for that place, nothing changes.
+pub fn hold(
+    held: &mut [u32],
+    place: Place,
+    tick: u32,
+    ss: u16,
+    gg: u16,
+    ii: u16,
+    jj: u16,
+    ij: u16,
+    ji: u16,
+) -> bool
+    ensures { λ r. ⌜ Holding
+        (now (held .entry))
+        (now (held .exit))
+        (place .0)
+        tick
+        (pair6 ss gg ii jj ij ji)
+        r ⌝ }
+{
+    let p = place.0;
+    let count = held.len() / 7;
+    if p >= count {
+        return false;
+    }
+    let at = 7 * p;
+    held[at] = tick;
+    held[at + 1] = ss as u32;
+    held[at + 2] = gg as u32;
+    held[at + 3] = ii as u32;
+    held[at + 4] = jj as u32;
+    held[at + 5] = ij as u32;
+    held[at + 6] = ji as u32;
+    true
 }

@@ -11,11 +11,11 @@ use lib.ListN.{length, getD, take}
 use lib.Seq.{length-take-le, getD-take}
 use Rattle.hall.specs.Ticks.{SmallestFrom, PermittedBy, PermittedAt, pairOf}
 use Rattle.hall.specs.Plan.{tablesIn}
-use Rattle.rule.specs.Held.{heldTick, heldPair}
-use Rattle.ticks.specs.Steps.{heldWith, HeldAt, Gathered}
+use Rattle.rule.specs.Held.{heldTick, heldPair, heldWith}
+use Rattle.ticks.specs.Steps.{HeldAt, Gathered}
 use Rattle.rule.proofs.Carry.{smallest-same}
-use Rattle.ticks.proofs.Held.{tick-same, pair-same, held-length, held-tick, held-pair}
-use Rattle.ticks.proofs.Held.{earlier-tick, earlier-pair}
+use Rattle.rule.proofs.Held.{tick-same, pair-same, held-length, held-tick, held-pair}
+use Rattle.rule.proofs.Held.{earlier-tick, earlier-pair}
 
 module _ (table order ticks held₀ : List ℕ) (q : ℕ) where
   pub gathered-none : Gathered table order ticks held₀ held₀ q 0

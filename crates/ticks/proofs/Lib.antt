@@ -1,7 +1,6 @@
 -- The laws behind the start ticks by a table and an order, and that one outcome fits (Unique). Callers with a
 -- sound job use `job-served` (Order) and `given-plan` (Outcome).
 pub mod Order
-pub mod Held
 pub mod Gathering
 pub mod Places
 pub mod Sums

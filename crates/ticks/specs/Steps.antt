@@ -1,6 +1,4 @@
 -- What the steps of placing (rules 5.1 to 5.3) promise to one another. No public promise cites them.
---     heldWith       the held list with a carrier written at a place: its start tick, then the six distances
---                    of its pair with the new one (crate rule, specs/Held.antt)
 --     HeldAt         what is held at place p is the start tick of the carrier at place p of the order, and
 --                    its pair with the carrier at place q
 --     Gathered       so for the first n places
@@ -15,18 +13,12 @@
 --                    they came
 use mathlib.Core.Path.{_≡_}
 use mathlib.Core.Logic.{_≢_}
-use mathlib.Core.List.{List, [], _∷_}
+use mathlib.Core.List.{List}
 use Prim.Native.Nat.{ℕ, _*_, _≤_, _<_}
 use lib.ListN.{length, getD, set}
-use lib.Seq.{sets}
-use Rattle.hall.specs.Rule.{Pair}
 use Rattle.hall.specs.Ticks.{SmallestFrom, PermittedAt, pairOf}
 use Rattle.hall.specs.Plan.{tablesIn}
 use Rattle.rule.specs.Held.{heldTick, heldPair}
-
-unfoldable pub heldWith : List ℕ → ℕ → ℕ → Pair → List ℕ
-heldWith held place tick p =
-    sets held (7 * place) (tick ∷ p .ss ∷ p .gg ∷ p .ii ∷ p .jj ∷ p .ij ∷ p .ji ∷ [])
 
 pub record HeldAt (table order ticks held : List ℕ) (q p : ℕ) : Type 0 where
   pub tick-is : heldTick held p ≡ getD ticks (getD order p 0) 0

@@ -11,18 +11,21 @@ ghost use Prim.Native.Nat.{_+_, _*_, _≤_, _<_};
 ghost use lib.ListN.{length, getD};
 ghost use denote.Ref.{now};
 ghost use Rattle.hall.specs.Limits.{carrierLimit, dwellLimit, tableLength};
-ghost use Rattle.hall.specs.Rule.{pair6, Answers};
+ghost use Rattle.hall.specs.Rule.{Answers};
 ghost use Rattle.hall.specs.Ticks.{pairOf, costOf};
 ghost use Rattle.hall.specs.Plan.{tablesIn};
 ghost use Rattle.ticks.specs.Timing.{OrderServed, TicksServed, Timing, saidTimed};
-ghost use Rattle.ticks.specs.Steps.{heldWith, Gathered, Early, EarlyAll, PlacedNext, PlacedTo};
+ghost use Rattle.rule.specs.Held.{heldWith};
+ghost use Rattle.ticks.specs.Steps.{Gathered, Early, EarlyAll, PlacedNext, PlacedTo};
 use hall::Carrier;
 use hall::Checked;
 use hall::Job;
 use hall::Place;
 use network::entries::Entries;
 use network::entries::check_each;
+use rule::HELD;
 use rule::first_tick;
+use rule::hold;
 
 // What is answered: the cost, or that the input is none of those served.
 pub enum Timed {
@@ -30,35 +33,7 @@ pub enum Timed {
     Unserved,
 }
 
-// Writes a carrier at its place in the held list: its start tick, then the six distances of its pair with the
-// new one.
-fn hold(
-    held: &mut [u32],
-    place: Place,
-    tick: u32,
-    ss: u16,
-    gg: u16,
-    ii: u16,
-    jj: u16,
-    ij: u16,
-    ji: u16,
-)
-    requires { ⌜ 7 * (place .0) + 7 ≤ length (now held) ⌝ }
-    ensures { λ _. ⌜ now (held .exit)
-        ≡ heldWith (now (held .entry)) (place .0) tick (pair6 ss gg ii jj ij ji) ⌝ }
-{
-    let p = place.0;
-    let at = 7 * p;
-    held[at] = tick;
-    held[at + 1] = ss as u32;
-    held[at + 2] = gg as u32;
-    held[at + 3] = ii as u32;
-    held[at + 4] = jj as u32;
-    held[at + 5] = ij as u32;
-    held[at + 6] = ji as u32;
-}
-
-// The same for carriers i and j, with the distances of the table.
+// Writes carrier i at its place in the held list of carrier j, with the distances of the table.
 fn hold_pair(table: &[u16], i: Carrier, j: Carrier, tick: u32, held: &mut [u32], place: Place)
     requires { ⌜ (tableLength ≤ length (now table))
         × (i .0 < carrierLimit)
@@ -113,7 +88,7 @@ fn gather(table: &[u16], order: &[u16], ticks: &[u32], q: Place, held: &mut [u32
 }
 
 // The carrier at place q gets the smallest tick that the carriers placed before it permit. The tick is
-// written at the carrier's number. Seven numbers for each carrier that a job can have are room enough.
+// written at the carrier's number.
 fn place_next(table: &[u16], order: &[u16], dwell: u32, q: Place, ticks: &mut [u32])
     requires { ⌜ OrderServed (now table) (now order) (length (now ticks))
         × (q .0 < length (now order))
@@ -128,7 +103,7 @@ fn place_next(table: &[u16], order: &[u16], dwell: u32, q: Place, ticks: &mut [u
         (q .0) ⌝ }
 {
     let p = q.0;
-    let mut held = [0u32; 448];
+    let mut held = [0u32; HELD];
     gather(table, order, ticks, q, &mut held);
     let end = 7 * p;
     let tick = first_tick(&held[..end], dwell, 0);

@@ -1,6 +1,10 @@
 -- `ticks::hold_pair` meets its contract. The six places that are read are those that `tablesIn` names, each
 -- within the table's three blocks, since both numbers are below 64. So what `hold` promises of the six is the
 -- pair of i and j. There is no loop. Assumes nothing.
+use native.Mathlib.Omega.{arith}
+use Rattle.hall.specs.Ticks.{pairOf}
+use Rattle.hall.specs.Plan.{tablesIn}
+use Rattle.rule.proofs.Held.{holding-written}
 use borrow.Author.Needs.{needs}
 use Rattle.ticks.proofs.hold_pair.Statement.{statement}
 use Rattle.ticks.proofs.hold_pair.Tie as tie
@@ -96,7 +100,12 @@ same-length : tie.Need-same-length
 same-length c = search needs
 
 returns : tie.Need-returns
-returns c = c .before .before .hold .ensures
+returns c =
+    let read = c .before .before .before .before .before .before .before .before .before in
+    let a = read .before .before .before .before .before .args in
+    let hold = c .before .before .hold in
+    holding-written (a .held .now) (a .place .0) (a .tick) (pairOf (tablesIn (a .table .now)) (a .i .0) (a .j .0))
+    (hold .last .0) (hold .result) (omega arith) (hold .ensures)
 
 pub hold-pair-spec : {M : Type 1} → statement M
 hold-pair-spec =

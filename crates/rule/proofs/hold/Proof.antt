@@ -1,13 +1,16 @@
--- `ticks::hold` meets its contract. The seven places stand within the list, which keeps its length over each
--- store, and seven stores one after the other are the run of stores that the contract names. There is no
--- loop. Assumes nothing.
+-- `rule::hold` meets its contract. A place past the list's groups of seven is refused before anything is
+-- written. Otherwise the seven places stand within the list, which keeps its length over each store, and seven
+-- stores one after the other are the run of stores that the contract names. There is no loop. Assumes nothing.
 use native.Mathlib.Omega.{arith}
 use lib.ListN.{length-set}
 use Rattle.hall.specs.Rule.{pair6}
-use Rattle.ticks.proofs.Held.{in-a-row}
+use Rattle.rule.proofs.Held.{in-a-row}
 use borrow.Author.Needs.{needs}
-use Rattle.ticks.proofs.hold.Statement.{statement}
-use Rattle.ticks.proofs.hold.Tie as tie
+use Rattle.rule.proofs.hold.Statement.{statement}
+use Rattle.rule.proofs.hold.Tie as tie
+
+returns : tie.Need-returns
+returns c = search needs
 
 mul-at : tie.Need-mul-at
 mul-at c = search needs
@@ -75,15 +78,20 @@ slice-write-held-7 c = simp length-set (omega arith)
 same-length : tie.Need-same-length
 same-length c = simp length-set
 
-returns : tie.Need-returns
-returns c =
-    let a = c .args in
-    in-a-row (a .held .now) (a .place .0) (a .tick) (pair6 (a .ss) (a .gg) (a .ii) (a .jj) (a .ij) (a .ji))
+returns-2 : tie.Need-returns-2
+returns-2 c =
+    let a = c .before .args in
+    record {
+      served = omega arith;
+      written = in-a-row (a .held .now) (a .place .0) (a .tick)
+          (pair6 (a .ss) (a .gg) (a .ii) (a .jj) (a .ij) (a .ji));
+    }
 
 pub hold-spec : {M : Type 1} → statement M
 hold-spec =
     tie.close
     (tie.spec
+    returns
     mul-at
     mul-held
     slice-write-held
@@ -106,4 +114,4 @@ hold-spec =
     mul-held-7
     slice-write-held-7
     same-length
-    returns)
+    returns-2)

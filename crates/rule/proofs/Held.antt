@@ -1,18 +1,19 @@
--- The held list with a carrier written at a place: what stands there is the carrier, what stands at earlier
+-- The held list with a carrier written at a place: what stands there is the carrier, what stands at other
 -- places is as it was, and the list is as long as it was. All three follow from a run of stores in a list: a
--- place of the run has the run's number, a place before it keeps its own, by induction over the run. Lists
--- that agree at the seven numbers of a place hold the same carrier there. Assumes nothing.
-use mathlib.Core.Path.{_≡_, refl, _∙_}
+-- place of the run has the run's number, a place before or after it keeps its own, by induction over the run.
+-- Lists that agree at the seven numbers of a place hold the same carrier there, and the other way round.
+-- Where the list has a group of seven at the place, `hold` writes it. Assumes nothing.
+use mathlib.Core.Path.{_≡_, refl, _∙_, ap}
+use mathlib.Core.Bool.{Bool, true, false}
 use mathlib.Core.List.{List, [], _∷_}
-use Prim.Native.Nat.{ℕ, zero, suc, _+_, _*_, _≤_, _<_}
+use Prim.Native.Nat.{ℕ, zero, suc, _+_, _*_, _/_, _≤_, _<_}
 use native.Mathlib.Nat.{not-suc-le-zero, add-zero}
 use native.Mathlib.Omega.{arith}
 use lib.ListN.{length, getD, set, length-set}
 use lib.Seq.{sets, length-sets, getD-set-same, getD-set-other}
 use Rattle.hall.specs.Rule.{Pair}
-use Rattle.rule.specs.Held.{heldTick, heldPair}
+use Rattle.rule.specs.Held.{heldTick, heldPair, heldWith, Holding}
 use Rattle.rule.proofs.Carry.{held-tick-is, held-pair-is}
-use Rattle.ticks.specs.Steps.{heldWith}
 
 -- ---- a run of stores
 
@@ -20,6 +21,11 @@ run-before : (vs l : List ℕ) (i j : ℕ) → j < i → getD (sets l i vs) j 0 
 run-before [] l i j h = refl
 run-before (v ∷ vs) l i j h =
     run-before vs (set l i v) (suc i) j (omega arith) ∙ getD-set-other l i j v 0 (λ e. omega arith)
+
+run-after : (vs l : List ℕ) (i j : ℕ) → i + length vs ≤ j → getD (sets l i vs) j 0 ≡ getD l j 0
+run-after [] l i j h = refl
+run-after (v ∷ vs) l i j h =
+    run-after vs (set l i v) (suc i) j (omega arith) ∙ getD-set-other l i j v 0 (λ e. omega arith)
 
 run-at : (vs l : List ℕ) (i k : ℕ) →
     k < length vs → i + length vs ≤ length l → getD (sets l i vs) (i + k) 0 ≡ getD vs k 0
@@ -44,6 +50,20 @@ module _ (l m : List ℕ) (q : ℕ) (same : (k : ℕ) → k < 7 * q + 7 → getD
       held-pair-is l q (heldPair m q)
       (same (7 * q + 1) (omega arith)) (same (7 * q + 2) (omega arith)) (same (7 * q + 3) (omega arith))
       (same (7 * q + 4) (omega arith)) (same (7 * q + 5) (omega arith)) (same (7 * q + 6) (omega arith))
+
+-- ---- lists that hold the same carrier at a place
+
+module _ (l m : List ℕ) (q : ℕ) (tick : heldTick l q ≡ heldTick m q) (pair : heldPair l q ≡ heldPair m q) where
+  pub numbers-same : (k : ℕ) → k < 7 → getD l (7 * q + k) 0 ≡ getD m (7 * q + k) 0
+  unfolding heldTick heldPair
+  numbers-same zero h = rw add-zero tick
+  numbers-same (suc zero) h = ap (λ (p : Pair). p .ss) pair
+  numbers-same (suc (suc zero)) h = ap (λ (p : Pair). p .gg) pair
+  numbers-same (suc (suc (suc zero))) h = ap (λ (p : Pair). p .ii) pair
+  numbers-same (suc (suc (suc (suc zero)))) h = ap (λ (p : Pair). p .jj) pair
+  numbers-same (suc (suc (suc (suc (suc zero))))) h = ap (λ (p : Pair). p .ij) pair
+  numbers-same (suc (suc (suc (suc (suc (suc zero)))))) h = ap (λ (p : Pair). p .ji) pair
+  numbers-same (suc (suc (suc (suc (suc (suc (suc k))))))) h = absurd (let x : ⊥ = omega arith in x)
 
 -- ---- a carrier written at a place
 
@@ -95,3 +115,15 @@ module _ (l : List ℕ) (place tick : ℕ) (p : Pair) (q : ℕ) (before : q < pl
 
   pub earlier-pair : heldPair (heldWith l place tick p) q ≡ heldPair l q
   earlier-pair = pair-same (heldWith l place tick p) l q earlier
+
+module _ (l : List ℕ) (place tick : ℕ) (p : Pair) where
+  -- what stands behind the seven numbers
+  pub later : (k : ℕ) → 7 * place + 7 ≤ k → getD (heldWith l place tick p) k 0 ≡ getD l k 0
+  unfolding heldWith
+  later k h = run-after (seven tick p) l (7 * place) k h
+
+  -- what is served is written
+  pub holding-written : (l′ : List ℕ) (r : Bool)
+      → place < length l / 7 → Holding l l′ place tick p r → l′ ≡ heldWith l place tick p
+  holding-written l′ true h a = a .written
+  holding-written l′ false h a = absurd (a .unserved h)
