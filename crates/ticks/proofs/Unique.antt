@@ -1,10 +1,15 @@
 -- `start_ticks` has one outcome: two answers with their ticks that fit the promise are equal. Where the input
 -- is served, both have the start ticks by the order, which are unique for each carrier it lists, and it lists
 -- every number below its length; at other places both have what came. Equal ticks have equal costs. An input
--- is not both served and unserved. Assumes nothing.
-use mathlib.Core.Path.{_≡_, refl, sym, ap, _∙_}
+-- is not both served and unserved. So it is for `gather`: each number of the held list stands in a group of
+-- seven at a place before q, where the carrier is given, or after them, where it is as it came. The promise of
+-- `cost` is an equation. Assumes nothing.
+--     timing-unique       two outcomes of `start_ticks` that fit its promise are equal
+--     gathering-unique    so are two of `gather`
+use mathlib.Core.Path.{_≡_, refl, sym, ap, subst, _∙_}
+use mathlib.Core.Bool.{Bool, true, false}
 use mathlib.Core.List.{List}
-use Prim.Native.Nat.{ℕ, _<_}
+use Prim.Native.Nat.{ℕ, _+_, _*_, _/_, _%_, _<_}
 use native.Mathlib.Decide.{decLt}
 use native.Mathlib.Omega.{arith}
 use lib.ListN.{length, getD}
@@ -15,6 +20,8 @@ use Rattle.hall.proofs.Ticks.{ticks-unique-all, total-same}
 use Rattle.ticks.specs.declared.Timed.{Timed}
 use Rattle.ticks.specs.declared.Timed.the-variants.{Cost, Unserved}
 use Rattle.ticks.specs.Timing.{Given, saidTimed, Timing}
+use Rattle.ticks.specs.Gathering.{Gathered, Gathering}
+use Rattle.rule.proofs.Held.{numbers-same}
 use Rattle.ticks.proofs.Order.{entry-below, one-place}
 
 module _ (table order : List ℕ) (dwell : ℕ) (ticks : List ℕ) where
@@ -46,3 +53,30 @@ module _ (table order : List ℕ) (dwell : ℕ) (ticks : List ℕ) where
   timing-unique u v (Cost c) Unserved a b = absurd (b .unserved (a .served))
   timing-unique u v Unserved (Cost d) a b = absurd (a .unserved (b .served))
   timing-unique u v Unserved Unserved a b = (refl, a .kept ∙ sym (b .kept))
+
+module _ (table order ticks : List ℕ) (q new : ℕ) (held : List ℕ) where
+  module _ (u v : List ℕ) (a : Gathered table order ticks held u new q) (b : Gathered table order ticks held v new q) where
+    same-number : (x : ℕ) → Dec (x < 7 * q) → getD u x 0 ≡ getD v x 0
+    same-number x (yes l) =
+        let p = x / 7 in
+        let inside : p < q = omega arith in
+        let at : 7 * p + x % 7 ≡ x = omega arith in
+        subst (λ (z : ℕ). getD u z 0 ≡ getD v z 0) at
+        (numbers-same u v p
+        (a .each p inside .tick-is ∙ sym (b .each p inside .tick-is))
+        (a .each p inside .pair-is ∙ sym (b .each p inside .pair-is))
+        (x % 7) (omega arith))
+    same-number x (no n) = a .beyond x (omega arith) ∙ sym (b .beyond x (omega arith))
+
+    gathered-unique : u ≡ v
+    gathered-unique =
+        ext-getD 0 u v (a .as-many ∙ sym (b .as-many)) (λ x h. same-number x (decLt x (7 * q)))
+
+  pub gathering-unique : (u v : List ℕ) (r r′ : Bool) →
+      Gathering table order ticks q new held u r →
+      Gathering table order ticks q new held v r′ →
+      (r ≡ r′) × (u ≡ v)
+  gathering-unique u v true true a b = (refl, gathered-unique u v (a .gathered) (b .gathered))
+  gathering-unique u v true false a b = absurd (b .unserved (a .served))
+  gathering-unique u v false true a b = absurd (a .unserved (b .served))
+  gathering-unique u v false false a b = (refl, a .kept ∙ sym (b .kept))

@@ -1,7 +1,4 @@
 -- What the steps of placing (rules 5.1 to 5.3) promise to one another. No public promise cites them.
---     HeldAt         what is held at place p is the start tick of the carrier at place p of the order, and
---                    its pair with the carrier at place q
---     Gathered       so for the first n places
 --     Early          the carrier at place p, before q, starts at tick 65,791 p at the latest, whatever the
 --                    table holds: a number of 16 bits, the greatest dwell and one tick more for each carrier
 --                    before it
@@ -16,17 +13,8 @@ use mathlib.Core.Logic.{_≢_}
 use mathlib.Core.List.{List}
 use Prim.Native.Nat.{ℕ, _*_, _≤_, _<_}
 use lib.ListN.{length, getD, set}
-use Rattle.hall.specs.Ticks.{SmallestFrom, PermittedAt, pairOf}
+use Rattle.hall.specs.Ticks.{SmallestFrom, PermittedAt}
 use Rattle.hall.specs.Plan.{tablesIn}
-use Rattle.rule.specs.Held.{heldTick, heldPair}
-
-pub record HeldAt (table order ticks held : List ℕ) (q p : ℕ) : Type 0 where
-  pub tick-is : heldTick held p ≡ getD ticks (getD order p 0) 0
-  pub pair-is : heldPair held p ≡ pairOf (tablesIn table) (getD order p 0) (getD order q 0)
-
-pub record Gathered (table order ticks held held′ : List ℕ) (q n : ℕ) : Type 0 where
-  pub as-many : length held′ ≡ length held
-  pub each : (p : ℕ) → p < n → HeldAt table order ticks held′ q p
 
 pub record Early (order ticks : List ℕ) (q : ℕ) : Type 0 where
   pub by-place : (p : ℕ) → p < q → getD ticks (getD order p 0) 0 ≤ 65791 * p

@@ -16,7 +16,8 @@ ghost use Rattle.hall.specs.Ticks.{pairOf, costOf};
 ghost use Rattle.hall.specs.Plan.{tablesIn};
 ghost use Rattle.ticks.specs.Timing.{OrderServed, TicksServed, Timing, saidTimed};
 ghost use Rattle.rule.specs.Held.{heldWith};
-ghost use Rattle.ticks.specs.Steps.{Gathered, Early, EarlyAll, PlacedNext, PlacedTo};
+ghost use Rattle.ticks.specs.Gathering.{GatherServed, Gathering};
+ghost use Rattle.ticks.specs.Steps.{Early, EarlyAll, PlacedNext, PlacedTo};
 use hall::Carrier;
 use hall::Checked;
 use hall::Job;
@@ -61,22 +62,75 @@ fn hold_pair(table: &[u16], i: Carrier, j: Carrier, tick: u32, held: &mut [u32],
     hold(held, place, tick, ss, gg, ii, jj, ij, ji);
 }
 
-// The carriers placed before q, each with its pair with the carrier at place q.
-fn gather(table: &[u16], order: &[u16], ticks: &[u32], q: Place, held: &mut [u32])
-    requires { ⌜ OrderServed (now table) (now order) (length (now ticks))
-        × (q .0 < length (now order))
-        × (7 * (q .0) ≤ length (now held)) ⌝ }
-    ensures { λ _. ⌜ Gathered
+// Whether the carriers before a place can be gathered: the table has its three blocks, the new carrier has a
+// number that a job can have, the order and the held list have so many places, and each entry before the place
+// is the number of a carrier that a job can have and that has a tick.
+fn gather_served(
+    table: &[u16],
+    order: &[u16],
+    timed: usize,
+    end: usize,
+    new: Carrier,
+    room: usize,
+) -> bool
+    ensures { λ r. ⌜ Answers
+        r
+        (GatherServed (now (table .entry)) (now (order .entry)) timed end (new .0) room) ⌝ }
+{
+    let count = order.len();
+    let number = new.0 as usize;
+    if table.len() < Job::TABLE {
+        return false;
+    }
+    if number >= Job::CARRIERS {
+        return false;
+    }
+    if end > count {
+        return false;
+    }
+    if end > room / 7 {
+        return false;
+    }
+    let mut p: usize = 0;
+    while p < end {
+        let placed = order[p] as usize;
+        if placed >= Job::CARRIERS {
+            return false;
+        }
+        if placed >= timed {
+            return false;
+        }
+        p += 1;
+    }
+    true
+}
+
+// The carriers at the places before q, each held with its tick and its pair with the carrier `new`, which need
+// not stand in the order. Whether they were gathered: what is not served changes nothing.
+pub fn gather(
+    table: &[u16],
+    order: &[u16],
+    ticks: &[u32],
+    q: Place,
+    new: Carrier,
+    held: &mut [u32],
+) -> bool
+    ensures { λ r. ⌜ Gathering
         (now (table .entry))
         (now (order .entry))
         (now (ticks .entry))
+        (q .0)
+        (new .0)
         (now (held .entry))
         (now (held .exit))
-        (q .0)
-        (q .0) ⌝ }
+        r ⌝ }
 {
     let end = q.0;
-    let new = q.carrier(order);
+    let timed = ticks.len();
+    let room = held.len();
+    if !gather_served(table, order, timed, end, new, room) {
+        return false;
+    }
     let mut p: usize = 0;
     while p < end {
         let placed = Place(p).carrier(order);
@@ -85,6 +139,7 @@ fn gather(table: &[u16], order: &[u16], ticks: &[u32], q: Place, held: &mut [u32
         hold_pair(table, placed, new, tick, held, Place(p));
         p += 1;
     }
+    true
 }
 
 // The carrier at place q gets the smallest tick that the carriers placed before it permit. The tick is
@@ -103,11 +158,11 @@ fn place_next(table: &[u16], order: &[u16], dwell: u32, q: Place, ticks: &mut [u
         (q .0) ⌝ }
 {
     let p = q.0;
+    let new = q.carrier(order);
     let mut held = [0u32; HELD];
-    gather(table, order, ticks, q, &mut held);
+    gather(table, order, ticks, q, new, &mut held);
     let end = 7 * p;
     let tick = first_tick(&held[..end], dwell, 0);
-    let new = q.carrier(order);
     let j = new.0 as usize;
     ticks[j] = tick as u32;
 }
