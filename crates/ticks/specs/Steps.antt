@@ -2,8 +2,6 @@
 --     Early          the carrier at place p, before q, starts at tick 65,791 p at the latest, whatever the
 --                    table holds: a number of 16 bits, the greatest dwell and one tick more for each carrier
 --                    before it
---     EarlyAll       so every one of k carriers, at most 64 in number, starts at tick 65,791 × 63 at the
---                    latest
 --     PlacedNext     the carrier at place q has got the smallest tick that the carriers placed before it
 --                    permit where all have the dwell w, and nothing else changed
 --     PlacedTo       the carriers at the places before q have their start ticks; all other numbers are as
@@ -18,9 +16,6 @@ use Rattle.hall.specs.Plan.{tablesIn}
 
 pub record Early (order ticks : List ℕ) (q : ℕ) : Type 0 where
   pub by-place : (p : ℕ) → p < q → getD ticks (getD order p 0) 0 ≤ 65791 * p
-
-pub record EarlyAll (ticks : List ℕ) (k : ℕ) : Type 0 where
-  pub by-number : (i : ℕ) → i < k → getD ticks i 0 ≤ 4144833
 
 pub record PlacedNext (w : ℕ) (table order ticks ticks′ : List ℕ) (q : ℕ) : Type 0 where
   pub tick : ℕ

@@ -7,17 +7,17 @@
 // (see crate rule), so less than k³ / 3 in all. That is 87,360 for 64 carriers at most, and far fewer where
 // few stretches overlap.
 ghost use mathlib.Core.Path.{_≡_};
-ghost use Prim.Native.Nat.{_+_, _*_, _≤_, _<_};
+ghost use Prim.Native.Nat.{_+_, _*_, _≤_, _<_, min};
 ghost use lib.ListN.{length, getD};
 ghost use denote.Ref.{now};
 ghost use Rattle.hall.specs.Limits.{carrierLimit, dwellLimit, tableLength};
 ghost use Rattle.hall.specs.Rule.{Answers};
-ghost use Rattle.hall.specs.Ticks.{pairOf, costOf};
+ghost use Rattle.hall.specs.Ticks.{pairOf, goalTick, costOf};
 ghost use Rattle.hall.specs.Plan.{tablesIn};
 ghost use Rattle.ticks.specs.Timing.{OrderServed, TicksServed, Timing, saidTimed};
 ghost use Rattle.rule.specs.Held.{heldWith};
 ghost use Rattle.ticks.specs.Gathering.{GatherServed, Gathering};
-ghost use Rattle.ticks.specs.Steps.{Early, EarlyAll, PlacedNext, PlacedTo};
+ghost use Rattle.ticks.specs.Steps.{Early, PlacedNext, PlacedTo};
 use hall::Carrier;
 use hall::Checked;
 use hall::Job;
@@ -186,20 +186,41 @@ fn place_all(table: &[u16], order: &[u16], dwell: u32, ticks: &mut [u32])
     }
 }
 
-// The sum of the goal ticks of the first k carriers.
-fn cost(table: &[u16], k: usize, ticks: &[u32]) -> u32
-    requires { ⌜ (tableLength ≤ length (now table))
-        × (k ≤ carrierLimit)
-        × (k ≤ length (now ticks))
-        × EarlyAll (now ticks) k ⌝ }
-    ensures { λ r. ⌜ r ≡ costOf (tablesIn (now (table .entry))) (λ i. getD (now (ticks .entry)) i 0) k ⌝ }
+// The goal tick of a carrier. A number past the end of the table or of the ticks counts 0.
+fn goal_tick(table: &[u16], ticks: &[u32], i: usize) -> u64
+    requires { ⌜ i < carrierLimit ⌝ }
+    ensures { λ r. ⌜ r ≡ goalTick (tablesIn (now (table .entry))) (λ j. getD (now (ticks .entry)) j 0) i ⌝ }
 {
-    let mut sum: u32 = 0;
+    let own = Job::BLOCK + (Job::CARRIERS * i + i);
+    if own >= table.len() {
+        if i >= ticks.len() {
+            return 0;
+        }
+        return ticks[i] as u64;
+    }
+    let distance = table[own] as u64;
+    if i >= ticks.len() {
+        return distance;
+    }
+    ticks[i] as u64 + distance
+}
+
+// The sum of the goal ticks of the first k carriers, 64 of them at most. It takes every table and every list
+// of ticks: a number past the end of one counts 0.
+pub fn cost(table: &[u16], k: usize, ticks: &[u32]) -> u64
+    ensures { λ r. ⌜ r
+        ≡ costOf
+        (tablesIn (now (table .entry)))
+        (λ i. getD (now (ticks .entry)) i 0)
+        (min k carrierLimit) ⌝ }
+{
+    let mut sum: u64 = 0;
     let mut i: usize = 0;
     while i < k {
-        let own = Job::CARRIERS * i + i;
-        let distance = table[Job::BLOCK + own] as u32;
-        sum += ticks[i] + distance;
+        if i >= Job::CARRIERS {
+            return sum;
+        }
+        sum += goal_tick(table, ticks, i);
         i += 1;
     }
     sum
@@ -248,6 +269,6 @@ pub fn start_ticks(table: &[u16], order: &[u16], dwell: usize, ticks: &mut [u32]
         return Timed::Unserved;
     }
     place_all(table, order, dwell as u32, ticks);
-    let sum = cost(table, count, ticks);
+    let sum = cost(table, count, ticks) as u32;
     Timed::Cost(sum)
 }

@@ -1,12 +1,13 @@
 -- `ticks::cost` meets its contract. The invariant: the sum is that of the goal ticks of the first i carriers,
--- and at most 4,210,368 for each of them, since a tick is early and a distance below 65,536; so 64 of them
--- fit 32 bits. The measure is what is left of the carriers. Assumes nothing.
+-- and at most 4,295,032,830 for each of them, since a tick has 32 bits and a distance 16; so 64 of them fit 64
+-- bits. The measure is what is left of the carriers. Assumes nothing.
 use mathlib.Core.Path.{_≡_, sym}
-use Prim.Native.Nat.{_+_, _*_, _-_, _≤_, _<_}
+use Prim.Native.Nat.{_+_, _*_, _-_, _≤_, min}
 use native.Mathlib.Omega.{arith}
+use borrow.Author.Needs.{needs}
 use lib.ListN.{getD}
 use Rattle.hall.specs.Limits.{carrierLimit, blockLength}
-use Rattle.hall.specs.Ticks.{own, costOf, goalTick}
+use Rattle.hall.specs.Ticks.{costOf, goalTick}
 use Rattle.hall.specs.Plan.{tablesIn}
 use Rattle.ticks.proofs.Sums.{total-none, total-more}
 use Rattle.ticks.proofs.cost.Statement.{statement}
@@ -14,61 +15,43 @@ use Rattle.ticks.proofs.cost.Tie as tie
 
 abbrev Inv-loop : tie.InvT-loop
 Inv-loop table k ticks sum₀ i₀ sum i =
-    (i ≤ k) × (sum ≤ 4210368 * i) × (sum ≡ costOf (tablesIn table) (λ j. getD ticks j 0) i)
+    (i ≤ k)
+    × (i ≤ carrierLimit)
+    × (sum ≤ 4295032830 * i)
+    × (sum ≡ costOf (tablesIn table) (λ j. getD ticks j 0) i)
 
 abbrev μ-loop : tie.MeasureT-loop
 μ-loop table k ticks sum₀ i₀ sum i = k - i
 
--- a turn adds a tick that is early and a distance below 65,536
-turn-early : (c : tie.After-shared-slice-known2 Inv-loop μ-loop) →
-    let at = c .before .before .before in getD (at .before .args .ticks .now) (at .loop .i) 0 ≤ 4144833
-turn-early c =
-    let at = c .before .before .before in
-    at .before .pre .3 .by-number (at .loop .i) (c .before .before .loop-test .taken)
-
-turn-distance : (c : tie.After-shared-slice-known2 Inv-loop μ-loop) →
-    let at = c .before .before .before in own (tablesIn (at .before .args .table .now)) (at .loop .i) < 65536
-turn-distance c =
-    let i = c .before .before .before .loop .i in
-    omega (arith, c .before .shared-slice-known .given (blockLength + (carrierLimit * i + i)))
-
 loop-holds : tie.Need-loop-holds Inv-loop μ-loop
 loop-holds c =
-    let a = c .args in
+    let a = c .before .before .args in
     let f = goalTick (tablesIn (a .table .now)) (λ j. getD (a .ticks .now) j 0) in
-    (omega arith, omega arith, sym (total-none f))
+    (omega arith, omega arith, omega arith, sym (total-none f))
 
-mul-own : tie.Need-mul-own Inv-loop μ-loop
-mul-own c = omega arith
+returns : tie.Need-returns Inv-loop μ-loop
+returns c =
+    let at = c .before .before in
+    let e : at .loop .i ≡ min (at .before .before .before .args .k) carrierLimit = omega arith in
+    rw e at (at .loop .inv .3)
 
-add-own : tie.Need-add-own Inv-loop μ-loop
-add-own c = omega arith
+goal-tick-requires : tie.Need-goal-tick-requires Inv-loop μ-loop
+goal-tick-requires c κs = search needs
 
-add-distance : tie.Need-add-distance Inv-loop μ-loop
-add-distance c = omega arith
-
-mul-distance : tie.Need-mul-distance Inv-loop μ-loop
-mul-distance c = omega arith
-
-shared-slice-read-distance : tie.Need-shared-slice-read-distance Inv-loop μ-loop
-shared-slice-read-distance c = omega arith
-
-cast-distance : tie.Need-cast-distance Inv-loop μ-loop
-cast-distance c =
-    let i = c .before .before .loop .i in
-    omega (arith, c .shared-slice-known .given (blockLength + (carrierLimit * i + i)))
-
-mul-sum : tie.Need-mul-sum Inv-loop μ-loop
-mul-sum c = omega arith
-
-shared-slice-read-sum : tie.Need-shared-slice-read-sum Inv-loop μ-loop
-shared-slice-read-sum c = omega arith
+-- a turn adds a tick of 32 bits and a distance of 16
+turn-limit : (c : tie.After-goal-tick Inv-loop μ-loop) → c .goal-tick .result ≤ 4295032830
+turn-limit c =
+    let at = c .before .before .before in
+    let i = at .loop .i in
+    omega (
+      arith,
+      c .goal-tick .ensures,
+      at .before .shared-slice-known2 .given i,
+      at .before .before .shared-slice-known .given (blockLength + (carrierLimit * i + i)),
+    )
 
 add-sum : tie.Need-add-sum Inv-loop μ-loop
-add-sum c = omega (arith, turn-early c, turn-distance c)
-
-add-sum-2 : tie.Need-add-sum-2 Inv-loop μ-loop
-add-sum-2 c = omega (arith, turn-early c, turn-distance c)
+add-sum c = omega (arith, turn-limit c)
 
 add-i : tie.Need-add-i Inv-loop μ-loop
 add-i c = omega arith
@@ -78,18 +61,21 @@ loop-less c = omega arith
 
 loop-again : tie.Need-loop-again Inv-loop μ-loop
 loop-again c =
-    let a = c .before .before .before .before .args in
-    let loop = c .before .before .before .loop in
+    let at = c .before .before .before in
+    let a = at .before .before .before .args in
+    let loop = at .loop in
     let f = goalTick (tablesIn (a .table .now)) (λ j. getD (a .ticks .now) j 0) in (
       omega arith,
-      omega (arith, turn-early c, turn-distance c),
-      rw (loop .inv .2) (sym (total-more (loop .i) f)),
+      omega arith,
+      omega (arith, turn-limit c),
+      rw (loop .inv .3, c .goal-tick .ensures) (sym (total-more (loop .i) f)),
     )
 
-returns : tie.Need-returns Inv-loop μ-loop
-returns c =
-    let loop = c .before .loop in
-    let e : loop .i ≡ c .before .before .args .k = omega arith in rw e at (loop .inv .2)
+returns-2 : tie.Need-returns-2 Inv-loop μ-loop
+returns-2 c =
+    let at = c .before in
+    let e : at .loop .i ≡ min (at .before .before .before .args .k) carrierLimit = omega arith in
+    rw e at (at .loop .inv .3)
 
 pub cost-spec : {M : Type 1} → statement M
 cost-spec =
@@ -98,17 +84,10 @@ cost-spec =
     Inv-loop
     μ-loop
     loop-holds
-    mul-own
-    add-own
-    add-distance
-    mul-distance
-    shared-slice-read-distance
-    cast-distance
-    mul-sum
-    shared-slice-read-sum
+    returns
+    goal-tick-requires
     add-sum
-    add-sum-2
     add-i
     loop-less
     loop-again
-    returns)
+    returns-2)

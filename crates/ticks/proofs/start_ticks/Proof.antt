@@ -1,11 +1,15 @@
 -- `ticks::start_ticks` meets its contract. What is not served is left as it came. Otherwise every place is
--- done (`place_all`), the ticks are early, so that the cost fits, and the promise holds (`placed-given`).
+-- done (`place_all`), the ticks are early, so that the cost fits (`cost-fits`), and the promise holds
+-- (`placed-given`).
 -- There is no loop. Assumes nothing.
+use mathlib.Core.Path.{_≡_}
 use native.Mathlib.Omega.{arith}
-use lib.ListN.{length}
+use lib.ListN.{length, getD}
+use Rattle.hall.specs.Ticks.{costOf}
+use Rattle.hall.specs.Plan.{tablesIn}
 use Rattle.hall.proofs.Answers.{affirmed-not, denied-not}
 use Rattle.ticks.specs.Timing.{TicksServed}
-use Rattle.ticks.proofs.Sums.{all-early}
+use Rattle.ticks.proofs.Sums.{cost-whole, cost-fits}
 use Rattle.ticks.proofs.Outcome.{left-untouched, placed-given}
 use borrow.Author.Needs.{needs}
 use Rattle.ticks.proofs.start_ticks.Statement.{statement}
@@ -33,14 +37,27 @@ place-all-requires c κs =
     (served .listed, served .dwell-few)
 
 cost-requires : tie.Need-cost-requires
-cost-requires c κs =
-    let served = passed (c .before .before .before .before .before) in
-    let all = c .before .before .before .place-all in
-    let placed = all .ensures in (
-      served .listed .whole-table,
-      served .listed .few-places,
-      omega (arith, placed .as-many, served .listed .few-places, served .listed .enough-room),
-      all-early (served .listed) (all .last .1 .1 .1 .0) (placed .early),
+cost-requires c κs = search needs
+
+-- the cost is that of all carriers
+cost-is : (c : tie.After-cost) →
+    let start = c .before .before .before .before .before .before .before .before .before .before .before in
+    let ticks = c .before .before .before .before .place-all .last .1 .1 .1 .0 in
+    c .cost .result
+    ≡ costOf (tablesIn (start .args .table .now)) (λ i. getD ticks i 0) (length (start .args .order .now))
+cost-is c =
+    let served = passed (c .before .before .before .before .before .before) in
+    cost-whole (served .listed) (c .before .before .before .before .place-all .last .1 .1 .1 .0) (c .cost .ensures)
+
+cast-sum : tie.Need-cast-sum
+cast-sum c =
+    let test = c .before .before .before .before .before .before in
+    let all = c .before .before .before .before .place-all in
+    let known = test .before .before .before .before .shared-slice-known .given in
+    omega (
+      arith,
+      cost-is c,
+      cost-fits (passed test .listed) (all .last .1 .1 .1 .0) (λ x. omega (arith, known x)) (all .ensures .early),
     )
 
 same-length : tie.Need-same-length
@@ -52,9 +69,9 @@ returns-2 c =
     let all = c .before .before .before .before .place-all in
     let served = passed (c .before .before .before .before .before .before) in
     placed-given (a .table .now) (a .order .now) (a .dwell) (a .ticks .now) (all .last .1 .1 .1 .0) (c .cost .result)
-    served (all .ensures) (c .cost .ensures)
+    served (all .ensures) (cost-is c)
 
 pub start-ticks-spec : {M : Type 1} → statement M
 start-ticks-spec =
     tie.close
-    (tie.spec served-requires returns cast-place-all place-all-requires cost-requires same-length returns-2)
+    (tie.spec served-requires returns cast-place-all place-all-requires cost-requires cast-sum same-length returns-2)
