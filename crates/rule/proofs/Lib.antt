@@ -1,4 +1,5 @@
--- The laws behind the promises, from one stretch to the whole search. Carry, Held, Bound, Unique: for callers.
+-- The laws behind the promises, from one stretch to the whole search. For callers: Carry, Held, Bound and
+-- Unique.
 pub mod Stretch
 pub mod StretchEnd
 pub mod Reach

@@ -1,7 +1,7 @@
 -- Each public function has one outcome: two results that fit its promise are equal. For `forbids`, a yes and
 -- a no to one statement exclude each other. For `first_tick`, two smallest ticks are each no later than the
--- other. Neither lends a table that can change. For `hold`, the list has a group of seven at the place or not,
--- and in both cases what it becomes is given by an equation. Assumes nothing.
+-- other. Neither lends a table that can change. For `hold`, the list has a group of seven at the place or
+-- not, and an equation says in both cases what it becomes. Assumes nothing.
 use mathlib.Core.Path.{_≡_, refl, sym, _∙_}
 use mathlib.Core.Bool.{Bool, true, false}
 use mathlib.Core.List.{List}

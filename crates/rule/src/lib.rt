@@ -1,8 +1,8 @@
 // The pair rule (rules 4.1 to 4.9) on plain numbers, and the first tick that it leaves free (rules 5.2 and
-// 5.3), against carriers that stand in one list of numbers. Every number of the types is served; a place that
-// the list does not have is told apart. The sums are made in u64, where none of them can overflow: no tick
-// comes up that is later than `latestTick` (specs/Reach.antt). The dwell is a number among the others: one
-// function serves every dwell, 0 too.
+// 5.3) against carriers that are held in one list of numbers. Nothing here refuses: every number of the types
+// is served, and a carrier for which the list has no room is not written, which the answer says. The sums are
+// made in u64, where none of them can overflow: no tick comes up that is later than `latestTick`
+// (specs/Reach.antt). The dwell is a number among the others: one function serves every dwell, 0 too.
 //
 // Work of `first_tick` against k held carriers: a carrier moves the tick at most once, since it permits every
 // tick after the move. So at most k rounds change the tick, one more changes nothing, and each makes k pair
@@ -19,7 +19,7 @@ ghost use Rattle.hall.specs.Ticks.{SmallestFrom, PermittedBy};
 ghost use Rattle.rule.specs.Held.{heldPair, heldTick, Holding};
 ghost use Rattle.rule.specs.Reach.{latestTick, RoundMade};
 
-// So many numbers hold every carrier that a job can have.
+// So many numbers are room for every carrier that a job can have: seven for each.
 pub const HELD: usize = 7 * Job::CARRIERS;
 
 // Whether the rule forbids that i starts at ti and j at tj, with additions only. All sums are made before the
@@ -204,7 +204,7 @@ pub fn first_tick(held: &[u32], dwell: u32, from: u32) -> u64
 }
 
 // Writes a carrier at its place in the held list: its start tick, then the six distances of its pair with the
-// new one. Whether it was written: where the list has no seven numbers for that place, nothing changes.
+// new one. Whether it was written: where the list has no seven numbers at that place, nothing changes.
 pub fn hold(
     held: &mut [u32],
     place: Place,

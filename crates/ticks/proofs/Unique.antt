@@ -1,8 +1,8 @@
 -- `start_ticks` has one outcome: two answers with their ticks that fit the promise are equal. Where the input
 -- is served, both have the start ticks by the order, which are unique for each carrier it lists, and it lists
 -- every number below its length; at other places both have what came. Equal ticks have equal costs. An input
--- is not both served and unserved. So it is for `gather`: each number of the held list stands in a group of
--- seven at a place before q, where the carrier is given, or after them, where it is as it came. The promise of
+-- is not both served and unserved. So it is for `gather`: a number of the held list is one of the seven at a
+-- place before q, where the carrier is given, or stands after them, where it is as it came. The promise of
 -- `cost` is an equation. Assumes nothing.
 --     timing-unique       two outcomes of `start_ticks` that fit its promise are equal
 --     gathering-unique    so are two of `gather`

@@ -1,11 +1,12 @@
--- The carriers that are placed already, held against a new one (crate rule, specs/Held.antt): what it promises
--- to gather them from a table, an order and ticks by carrier number. The new carrier is given by its number and
--- need not stand in the order. Of the order no more is asked than the places before q.
---     HeldAt             what is held at place p is the start tick of the carrier at place p of the order, and
---                        its pair with the new carrier
---     GatherServed       what is served: a table with its three blocks, a new carrier with a number that a job
---                        can have, an order and a held list with so many places, and before q only carrier
---                        numbers that a job can have and that have a tick
+-- The carriers that are placed already, held against a new one (crate rule, specs/Held.antt): what gathering
+-- them from a table, an order and ticks by carrier number promises. The new carrier is given by its number
+-- and need not stand in the order. Of the order only the places before q are asked for.
+--     HeldAt             what is held at place p is the start tick of the carrier at place p of the order,
+--                        and its pair with the new carrier
+--     GatherServed       what is served: a table with its three blocks, a new carrier with a number that a
+--                        job can have, q places in the order and in the held list, and at each place of the
+--                        order before q a carrier number that a job can have and that has a tick. Of the
+--                        ticks and of the held list only the lengths count, `timed` and `room`
 --     Gathered           the places before n are held so, and every number after them is as it came
 --     HeldFilled         what is served leaves the places before q held so
 --     GatherUntouched    what is not served leaves the held list as it came

@@ -1,7 +1,9 @@
 // Start ticks and cost by a distance table (rule 9.8), an order and a dwell (rules 5.1 to 5.5). A network is
 // not asked for: the table may hold any numbers, as long as it has its least length. An input that is not
-// served leaves the ticks as they came. Places of the order and carrier numbers have a type each, since both
-// go into one function here and neither may be used for the other (rule 3.9).
+// served leaves the ticks as they came. Two steps can be asked for by themselves: `gather` holds the placed
+// carriers against a new one, listed or not, and `cost` adds up goal ticks. Places of the order and carrier
+// numbers have a type each, since both go into one function here and neither may be used for the other (rule
+// 3.9).
 //
 // Work for k carriers: the one at place q is tested against the q before it, q (q + 1) pair tests at most
 // (see crate rule), so less than k³ / 3 in all. That is 87,360 for 64 carriers at most, and far fewer where
@@ -63,20 +65,21 @@ fn hold_pair(table: &[u16], i: Carrier, j: Carrier, tick: u32, held: &mut [u32],
 }
 
 // Whether the carriers before a place can be gathered: the table has its three blocks, the new carrier has a
-// number that a job can have, the order and the held list have so many places, and each entry before the place
-// is the number of a carrier that a job can have and that has a tick.
+// number that a job can have, the order and the held list have so many places, and each entry before the
+// place is a carrier number that a job can have and that has a tick.
 fn gather_served(
     table: &[u16],
     order: &[u16],
     timed: usize,
-    end: usize,
+    q: Place,
     new: Carrier,
     room: usize,
 ) -> bool
     ensures { λ r. ⌜ Answers
         r
-        (GatherServed (now (table .entry)) (now (order .entry)) timed end (new .0) room) ⌝ }
+        (GatherServed (now (table .entry)) (now (order .entry)) timed (q .0) (new .0) room) ⌝ }
 {
+    let end = q.0;
     let count = order.len();
     let number = new.0 as usize;
     if table.len() < Job::TABLE {
@@ -105,7 +108,7 @@ fn gather_served(
     true
 }
 
-// The carriers at the places before q, each held with its tick and its pair with the carrier `new`, which need
+// The carriers at the places before q, each held with its tick and its pair with the new carrier, which need
 // not stand in the order. Whether they were gathered: what is not served changes nothing.
 pub fn gather(
     table: &[u16],
@@ -128,7 +131,7 @@ pub fn gather(
     let end = q.0;
     let timed = ticks.len();
     let room = held.len();
-    if !gather_served(table, order, timed, end, new, room) {
+    if !gather_served(table, order, timed, q, new, room) {
         return false;
     }
     let mut p: usize = 0;

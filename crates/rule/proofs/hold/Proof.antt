@@ -1,6 +1,6 @@
--- `rule::hold` meets its contract. A place past the list's groups of seven is refused before anything is
--- written. Otherwise the seven places stand within the list, which keeps its length over each store, and seven
--- stores one after the other are the run of stores that the contract names. There is no loop. Assumes nothing.
+-- `rule::hold` meets its contract. Where the list has no group of seven at the place, nothing is written.
+-- Otherwise the seven numbers stand within the list, which keeps its length over each store, and seven stores
+-- one after the other are the run of stores that the contract names. There is no loop. Assumes nothing.
 use native.Mathlib.Omega.{arith}
 use lib.ListN.{length-set}
 use Rattle.hall.specs.Rule.{pair6}

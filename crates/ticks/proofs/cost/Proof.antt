@@ -1,6 +1,6 @@
 -- `ticks::cost` meets its contract. The invariant: the sum is that of the goal ticks of the first i carriers,
--- and at most 4,295,032,830 for each of them, since a tick has 32 bits and a distance 16; so 64 of them fit 64
--- bits. The measure is what is left of the carriers. Assumes nothing.
+-- and at most 4,295,032,830 for each of them, since a tick has 32 bits and a distance 16; so 64 of them fit.
+-- The measure is what is left of the carriers. Assumes nothing.
 use mathlib.Core.Path.{_≡_, sym}
 use Prim.Native.Nat.{_+_, _*_, _-_, _≤_, min}
 use native.Mathlib.Omega.{arith}

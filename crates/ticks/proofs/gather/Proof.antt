@@ -6,7 +6,7 @@ use mathlib.Core.Path.{_≡_, refl}
 use Prim.Native.Nat.{_+_, _*_, _-_, _≤_, _<_}
 use native.Mathlib.Omega.{arith}
 use borrow.Author.Needs.{needs}
-use lib.ListN.{length, getD}
+use lib.ListN.{length}
 use Rattle.hall.specs.Limits.{carrierLimit}
 use Rattle.hall.proofs.Answers.{affirmed-not, denied-not}
 use Rattle.ticks.specs.Gathering.{GatherServed, Gathered}

@@ -12,13 +12,13 @@ use Rattle.ticks.proofs.gather_served.Statement.{statement}
 use Rattle.ticks.proofs.gather_served.Tie as tie
 
 abbrev Inv-loop : tie.InvT-loop
-Inv-loop table order timed end room count number p₀ p =
+Inv-loop table order timed room end count number p₀ p =
     (p ≤ end)
     × ((x : ℕ) → x < p → getD order x 0 < carrierLimit)
     × ((x : ℕ) → x < p → getD order x 0 < timed)
 
 abbrev μ-loop : tie.MeasureT-loop
-μ-loop table order timed end room count number p₀ p = end - p
+μ-loop table order timed room end count number p₀ p = end - p
 
 cast-number : tie.Need-cast-number Inv-loop μ-loop
 cast-number c = search needs

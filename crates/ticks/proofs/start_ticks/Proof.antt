@@ -1,7 +1,6 @@
 -- `ticks::start_ticks` meets its contract. What is not served is left as it came. Otherwise every place is
 -- done (`place_all`), the ticks are early, so that the cost fits (`cost-fits`), and the promise holds
--- (`placed-given`).
--- There is no loop. Assumes nothing.
+-- (`placed-given`). There is no loop. Assumes nothing.
 use mathlib.Core.Path.{_≡_}
 use native.Mathlib.Omega.{arith}
 use lib.ListN.{length, getD}
