@@ -1,10 +1,10 @@
 -- Laws of planning a job from numbers, from the bottom up.
---     steps         Copies, Faults, Clearing, Outcome
+--     steps         Faults, Receiving, Outcome, Ready
 --     the promise   Unique, Exactly, Safe, Crowd, Cases, RuledOut
-pub mod Copies
 pub mod Faults
-pub mod Clearing
+pub mod Receiving
 pub mod Outcome
+pub mod Ready
 pub mod Unique
 pub mod Exactly
 pub mod Safe

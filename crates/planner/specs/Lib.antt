@@ -1,3 +1,3 @@
--- What planning a job from numbers promises.
+-- What planning a job from numbers promises, and what its first step does.
 pub mod Planning
-pub mod Steps
+pub mod Receiving

@@ -2,7 +2,8 @@
 // It serves every lane list and every list of closed nodes; more than 1,024 nodes or 64 carriers, a start or
 // goal that is no node and a table that is too short are not served, and the table is then as it came. A
 // closed start or goal is served: no walk joins it to anything, so the mark stands there. A filled table
-// tells which carrier is the lowest without a walk to its goal (rule 8.8).
+// tells which carrier is the lowest without a walk to its goal (rule 8.8). `measure` does both, and leaves
+// the carriers' own distances in a list of theirs.
 //
 // Cost: two distance walks a carrier, 128 at the most.
 use hall::Carrier;
@@ -13,12 +14,12 @@ ghost use Prim.Native.Nat.{ℕ, _+_, _≤_, _<_};
 ghost use mathlib.Core.Path.{_≡_};
 ghost use lib.ListN.{length, getD};
 ghost use denote.Ref.{now};
-ghost use Rattle.hall.specs.Limits.{tableLength};
+ghost use Rattle.hall.specs.Limits.{carrierLimit, tableLength};
 ghost use Rattle.hall.specs.Floor.{networkOf};
 ghost use Rattle.hall.specs.Job.{moveCount};
 ghost use Rattle.hall.specs.Rule.{Answers};
 ghost use Rattle.tables.specs.Filling.{EachBelow, TableServed, Filling, TableFilled};
-ghost use Rattle.tables.specs.Filling.{saidReach, Reaching};
+ghost use Rattle.tables.specs.Measuring.{Reaching, OwnCopied, Measuring};
 ghost use Rattle.tables.specs.Blocks.{RowCopied, CarrierFilled};
 
 // Where the third block begins.
@@ -126,23 +127,24 @@ pub fn fill(nodes: usize, lanes: &[u16], closed: &[u16], moves: &[u16], table: &
     true
 }
 
-// Whether every carrier has a walk to its goal, by the own distances of a table; or the lowest carrier number
-// that has none.
+// Whether every carrier has a walk to its goal; or the lowest carrier number that has none; or what is asked
+// is not served.
 pub enum Reach {
     All,
     Lost(Carrier),
+    Unserved,
 }
 
-// Looks for the lowest of the carrier numbers below `carriers` without a walk. A table of fewer than 12,288
-// numbers and more than 64 carriers are not served: nothing is looked at, and no carrier is answered.
+// Looks for the lowest of the carrier numbers below `carriers` without a walk, by the own distances of a
+// table. A table of fewer than 12,288 numbers and more than 64 carriers are not served.
 pub fn first_unreached(table: &[u16], carriers: usize) -> Reach
-    ensures { λ r. ⌜ Reaching (now (table .entry)) carriers (saidReach r) ⌝ }
+    ensures { λ r. ⌜ Reaching (now (table .entry)) carriers r ⌝ }
 {
     if table.len() < Job::TABLE {
-        return Reach::All;
+        return Reach::Unserved;
     }
     if carriers > Job::CARRIERS {
-        return Reach::All;
+        return Reach::Unserved;
     }
     let mut i: usize = 0;
     while i < carriers {
@@ -154,4 +156,66 @@ pub fn first_unreached(table: &[u16], carriers: usize) -> Reach
         i += 1;
     }
     Reach::All
+}
+
+// Copies each carrier's own distance out of the table.
+fn copy_own(table: &[u16], carriers: usize, distances: &mut [u16])
+    requires { ⌜
+        (tableLength ≤ length (now table))
+        × (carriers ≤ carrierLimit)
+        × (carrierLimit ≤ length (now distances)) ⌝ }
+    ensures { λ _. ⌜ OwnCopied
+        (now (table .entry))
+        carriers
+        (now (distances .entry)) (now (distances .exit)) ⌝ }
+{
+    let mut i: usize = 0;
+    while i < carriers {
+        let at = Job::CARRIERS * i + i;
+        let own = table[Job::BLOCK + at];
+        distances[i] = own;
+        i += 1;
+    }
+}
+
+// The distance table of the moves, and each carrier's own distance; or the lowest carrier without a walk, and
+// the least lengths of both lists zero. What `fill` does not serve is not served, nor are fewer than 64
+// distances: both lists are then as they came.
+pub fn measure(
+    nodes: usize,
+    lanes: &[u16],
+    closed: &[u16],
+    moves: &[u16],
+    table: &mut [u16],
+    distances: &mut [u16],
+) -> Reach
+    ensures { λ r. ⌜ Measuring (networkOf nodes (now (lanes .entry)) (now (closed .entry)))
+        (now (moves .entry))
+        (now (table .entry)) (now (table .exit))
+        (now (distances .entry)) (now (distances .exit))
+        r ⌝ }
+{
+    let carriers = moves.len() / 2;
+    let room = distances.len();
+    if room < Job::CARRIERS {
+        return Reach::Unserved;
+    }
+    let filled = fill(nodes, lanes, closed, moves, table);
+    if !filled {
+        return Reach::Unserved;
+    }
+    zero_first(distances, Job::CARRIERS);
+    match first_unreached(table, carriers) {
+        Reach::All => {
+            copy_own(table, carriers, distances);
+            Reach::All
+        }
+        Reach::Lost(carrier) => {
+            let whole = Job::TABLE;
+            zero_first(table, whole);
+            Reach::Lost(carrier)
+        }
+        // A filled table is served: no call comes here.
+        Reach::Unserved => Reach::Unserved,
+    }
 }
