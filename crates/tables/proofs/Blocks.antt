@@ -1,31 +1,34 @@
--- The three rows of a carrier, and the blocks that they make. A row of distances from a carrier's start,
--- copied at the starts and at the goals, and one from its goal, copied at the goals, fill the carrier's
--- places; the later copies stand in other blocks and leave the earlier ones. Carrier after carrier the places
--- of two carriers come to hold their distances, and every other place stays zero or as it came. Assumes
--- nothing.
+-- The rows of a node, and the blocks that they make. The distances from a node, copied to the rows of all
+-- carriers that begin at it, fill these; the copies in one block leave the other blocks. The distance depends
+-- on the nodes alone, so one walk serves every carrier with this start or goal. Node after node the places of
+-- two carriers come to hold their distances, since every row begins at a start or a goal; every other place
+-- stays zero or as it came. Assumes nothing.
 --     end-below          where every start and goal is an open node, every number of the moves is a node
---     carrier-filled     two walks and three copies make the rows of a carrier
---     FilledTo           where the loop over the carriers stands before carrier i
---     filled-none, filled-more, filled-all    before the first carrier, a carrier more, after the last
+--     node-filled        a walk and its copies in three blocks make the rows of a node
+--     FilledTo           where the loop over the starts and goals stands before place n of the moves
+--     filled-none        before the first
+--     filled-more        a node more
+--     filled-same        a node that came before has its rows already
+--     filled-all         after the last
 --     served-by          what the tests of `fill` leave is served
 --     over-zeroed        a table filled over one that was zeroed first is the one that came, filled
 use mathlib.Core.Path.{_≡_, refl, sym, _∙_, ap, subst}
-use mathlib.Core.Logic.{_⊎_, inl, inr}
+use mathlib.Core.Logic.{_≢_, inl, inr}
 use mathlib.Core.List.{List}
-use Prim.Native.Nat.{ℕ, _+_, _*_, _/_, _%_, _≤_, _<_}
-use native.Mathlib.Nat.{not-suc-le-zero, zero-add, add-zero, add-assoc}
+use Prim.Native.Nat.{ℕ, zero, suc, _+_, _*_, _/_, _%_, _≤_, _<_}
+use native.Mathlib.Nat.{not-suc-le-zero}
 use native.Mathlib.Decide.{ℕ-discrete, decLt}
 use native.Mathlib.Omega.{arith}
 use lib.ListN.{length, getD}
-use Rattle.hall.specs.Limits.{nodeLimit, carrierLimit, blockLength, tableLength}
+use Rattle.hall.specs.Limits.{nodeLimit, carrierLimit, blockLength, goalBlock, tableLength}
 use Rattle.hall.specs.Floor.{Network, floor, DistanceIs}
-use Rattle.hall.specs.Job.{moveCount, startIn, goalIn, EndsOn}
-use Rattle.hall.specs.Plan.{tablesIn}
+use Rattle.hall.specs.Job.{moveCount, EndsOn}
 use Rattle.hall.specs.Left.{zeroed}
 use Rattle.hall.proofs.Left.{zeroed-length, zeroed-beyond}
 use Rattle.walk.specs.Row
-use Rattle.tables.specs.Filling.{EachBelow, TableServed, TableFilled}
-use Rattle.tables.specs.Blocks.{RowCopied, Elsewhere, CarrierFilled}
+use Rattle.tables.specs.Filling.{EachBelow, TableServed, Used, TableFilled}
+use Rattle.tables.specs.Blocks.{rowEnd, placeEnd, placeIn, OutsideRow, OutsideRows, RowsCopied}
+use Rattle.tables.specs.Blocks.{NodeFilled, Among}
 
 -- for a caller whose moves have open ends
 pub end-below : (N : Network) {moves : List ℕ} → EndsOn (floor N) moves → EachBelow moves (N .nodes)
@@ -35,117 +38,140 @@ end-below N {moves} ends-open x h = cases (ℕ-discrete (x % 2) 0)
     cases (yes e) = subst (λ (y : ℕ). getD moves y 0 < N .nodes) (omega arith) (ends-open .starts (x / 2) (omega arith) .numbered)
     cases (no e) = subst (λ (y : ℕ). getD moves y 0 < N .nodes) (omega arith) (ends-open .goals (x / 2) (omega arith) .numbered)
 
-module _ (N : Network) (moves : List ℕ) (i : ℕ) (few : moveCount moves ≤ carrierLimit) (inside : i < moveCount moves) (numbered : EachBelow moves (N .nodes)) where
-  -- a row of distances, copied at the starts (offset 0) or at the goals (offset 1)
-  at-ends : {source : ℕ} {row left table table′ : List ℕ} (offset base : ℕ) → Row.RowFilled N source row left
-      → RowCopied left moves offset (moveCount moves) base table table′
-      → (j : ℕ) → j < moveCount moves → getD moves (2 * j + offset) 0 < N .nodes
-      → DistanceIs (floor N) source (getD moves (2 * j + offset) 0) (getD table′ (base + j) 0)
-  at-ends offset base f c j h n = rw (c .copied j h) (f .holds (getD moves (2 * j + offset) 0) n)
+-- ---- the rows of a node
 
-  pub carrier-filled : {row row₁ row₂ table₀ table₁ table₂ table₃ : List ℕ}
-      → Row.RowFilled N (startIn moves i) row row₁ → RowCopied row₁ moves 0 (moveCount moves) (carrierLimit * i) table₀ table₁
-      → RowCopied row₁ moves 1 (moveCount moves) (blockLength + carrierLimit * i) table₁ table₂
-      → Row.RowFilled N (goalIn moves i) row₁ row₂ → RowCopied row₂ moves 1 (moveCount moves) (8192 + carrierLimit * i) table₂ table₃
-      → CarrierFilled N moves i table₀ table₃
-  carrier-filled {table₀ = table₀} {table₁ = table₁} {table₂ = table₂} {table₃ = table₃} f₁ c₁ c₂ f₂ c₃ = record {
-    size = c₃ .size ∙ c₂ .size ∙ c₁ .size;
-    starts = starts;
-    goals = goals;
-    start-goal = start-goal;
-    others = λ x e. c₃ .others x (e 2 (omega arith)) ∙ c₂ .others x (e 1 (omega arith)) ∙ c₁ .others x (first-block (e 0 (omega arith)));
+-- rows of two blocks have no place in common
+other-block : {k i i′ j : ℕ} (block block′ : ℕ) → k ≤ carrierLimit → block ≢ block′ → i < k → i′ < k → j < k
+    → OutsideRow k block′ i′ (placeIn block i j)
+other-block {k} {i} {i′} {j} block block′ few differ h h′ l = cases (decLt block block′)
+  where
+    cases : Dec (block < block′) → OutsideRow k block′ i′ (placeIn block i j)
+    cases (yes x) = inl (omega arith)
+    cases (no x) = inr (omega arith)
+
+module _ (N : Network) (moves : List ℕ) (node : ℕ) (few : moveCount moves ≤ carrierLimit) (numbered : EachBelow moves (N .nodes)) where
+  pub node-filled : {row left table₀ table₁ table₂ table₃ : List ℕ}
+      → Row.RowFilled N node row left
+      → RowsCopied left moves node 0 (moveCount moves) table₀ table₁
+      → RowsCopied left moves node 1 (moveCount moves) table₁ table₂
+      → RowsCopied left moves node 2 (moveCount moves) table₂ table₃
+      → NodeFilled N moves node table₀ table₃
+  node-filled {left = left} {table₀ = table₀} {table₁ = table₁} {table₂ = table₂} {table₃ = table₃} f c₀ c₁ c₂ = record {
+    size = c₂ .size ∙ c₁ .size ∙ c₀ .size;
+    held = λ block i j b h l e. rw (in-row block i j b h l e) (f .holds (placeEnd moves block j) (numbered (2 * j + (block + 1) / 2) (omega arith)));
+    others = λ x out. c₂ .others x (out 2 (omega arith)) ∙ c₁ .others x (out 1 (omega arith)) ∙ c₀ .others x (out 0 (omega arith));
   }
     where
-      first-block : {x : ℕ} → (x < blockLength * 0 + carrierLimit * i) ⊎ (blockLength * 0 + carrierLimit * i + moveCount moves ≤ x) → (x < carrierLimit * i) ⊎ (carrierLimit * i + moveCount moves ≤ x)
-      first-block (inl h) = inl (omega arith)
-      first-block (inr h) = inr (omega arith)
+      in-row : (block i j : ℕ) → block < 3 → i < moveCount moves → j < moveCount moves → rowEnd moves block i ≡ node
+          → getD table₃ (placeIn block i j) 0 ≡ getD left (placeEnd moves block j) 0
+      in-row zero i j b h l e =
+          c₂ .others (placeIn 0 i j) (λ i′ h′ e′. other-block 0 2 few (omega arith) h h′ l)
+          ∙ c₁ .others (placeIn 0 i j) (λ i′ h′ e′. other-block 0 1 few (omega arith) h h′ l)
+          ∙ c₀ .copied i j h l e
+      in-row (suc zero) i j b h l e = c₂ .others (placeIn 1 i j) (λ i′ h′ e′. other-block 1 2 few (omega arith) h h′ l) ∙ c₁ .copied i j h l e
+      in-row (suc (suc zero)) i j b h l e = c₂ .copied i j h l e
+      in-row (suc (suc (suc m))) i j b h l e = absurd (let x : ⊥ = omega arith in x)
 
-      starts : (j : ℕ) → j < moveCount moves → DistanceIs (floor N) (startIn moves i) (startIn moves j) (getD table₃ (carrierLimit * i + j) 0)
-      starts j h =
-          rw (c₃ .others (carrierLimit * i + j) (inl (omega arith)), c₂ .others (carrierLimit * i + j) (inl (omega arith)))
-          (rw add-zero at (at-ends 0 (carrierLimit * i) f₁ c₁ j h (rw add-zero (numbered (2 * j) (omega arith)))))
+-- ---- node after node
 
-      start-goal : (j : ℕ) → j < moveCount moves → DistanceIs (floor N) (startIn moves i) (goalIn moves j) (getD table₃ (blockLength + (carrierLimit * i + j)) 0)
-      start-goal j h =
-          rw (c₃ .others (blockLength + (carrierLimit * i + j)) (inl (omega arith)), ← add-assoc blockLength (carrierLimit * i) j)
-          (at-ends 1 (blockLength + carrierLimit * i) f₁ c₂ j h (numbered (2 * j + 1) (omega arith)))
-
-      goals : (j : ℕ) → j < moveCount moves → DistanceIs (floor N) (goalIn moves i) (goalIn moves j) (getD table₃ (8192 + (carrierLimit * i + j)) 0)
-      goals j h = rw (← add-assoc 8192 (carrierLimit * i) j) (at-ends 1 (8192 + carrierLimit * i) f₂ c₃ j h (numbered (2 * j + 1) (omega arith)))
-
--- ---- carrier after carrier
-
--- the places of the carriers before i, each with all k, are filled; every other place is zero or as it came
-pub record FilledTo (N : Network) (moves table : List ℕ) (i : ℕ) (table′ : List ℕ) : Type 0 where
+-- the rows that begin at one of the first n starts and goals are filled; a place in no row is as it came
+pub record FilledTo (N : Network) (moves table : List ℕ) (n : ℕ) (table′ : List ℕ) : Type 0 where
   pub size : length table′ ≡ length table
-  pub starts : (u j : ℕ) → u < i → j < moveCount moves → DistanceIs (floor N) (startIn moves u) (startIn moves j) (tablesIn table′ .ss u j)
-  pub goals : (u j : ℕ) → u < i → j < moveCount moves → DistanceIs (floor N) (goalIn moves u) (goalIn moves j) (tablesIn table′ .gg u j)
-  pub start-goal : (u j : ℕ) → u < i → j < moveCount moves → DistanceIs (floor N) (startIn moves u) (goalIn moves j) (tablesIn table′ .sg u j)
-  pub unused : (x : ℕ) → x < tableLength → ¬ ((x % blockLength / carrierLimit < i) × (x % carrierLimit < moveCount moves)) → getD table′ x 0 ≡ getD table x 0
+  pub held : (block i j : ℕ) → block < 3 → i < moveCount moves → j < moveCount moves → Among moves n (rowEnd moves block i)
+      → DistanceIs (floor N) (rowEnd moves block i) (placeEnd moves block j) (getD table′ (placeIn block i j) 0)
+  pub unused : (x : ℕ) → x < tableLength → ¬ Used (moveCount moves) x → getD table′ x 0 ≡ getD table x 0
   pub beyond : (x : ℕ) → tableLength ≤ x → getD table′ x 0 ≡ getD table x 0
 
 module _ (N : Network) (moves table : List ℕ) where
   pub filled-none : FilledTo N moves table 0 table
   filled-none = record {
     size = refl;
-    starts = λ u j h. absurd (not-suc-le-zero h);
-    goals = λ u j h. absurd (not-suc-le-zero h);
-    start-goal = λ u j h. absurd (not-suc-le-zero h);
+    held = λ block i j b h l a. absurd (not-suc-le-zero (a .before));
     unused = λ x h n. refl;
     beyond = λ x h. refl;
   }
 
-  -- the places of carrier u are none of a later carrier's
-  other-carrier : (b u i j : ℕ) → moveCount moves ≤ carrierLimit → u < i → i < carrierLimit → j < moveCount moves → b < 3 → Elsewhere (moveCount moves) i (blockLength * b + (carrierLimit * u + j))
-  other-carrier b u i j few h k l m b′ m′ = cases (decLt b b′) (decLt b′ b)
-    where
-      cases : Dec (b < b′) → Dec (b′ < b) → (blockLength * b + (carrierLimit * u + j) < blockLength * b′ + carrierLimit * i) ⊎ (blockLength * b′ + carrierLimit * i + moveCount moves ≤ blockLength * b + (carrierLimit * u + j))
-      cases (yes x) y = inl (omega arith)
-      cases (no x) (yes y) = inr (omega arith)
-      cases (no x) (no y) = inl (omega arith)
-
-  module _ (few : moveCount moves ≤ carrierLimit) (i : ℕ) (i-few : i < moveCount moves) where
-    -- a place that belongs to no carrier before i + 1 is none of carrier i's
-    unused-elsewhere : (x : ℕ) → ¬ ((x % blockLength / carrierLimit < i + 1) × (x % carrierLimit < moveCount moves)) → Elsewhere (moveCount moves) i x
-    unused-elsewhere x n b h = cases (decLt x (blockLength * b + carrierLimit * i)) (decLt x (blockLength * b + carrierLimit * i + moveCount moves))
-      where
-        cases : Dec (x < blockLength * b + carrierLimit * i) → Dec (x < blockLength * b + carrierLimit * i + moveCount moves) → (x < blockLength * b + carrierLimit * i) ⊎ (blockLength * b + carrierLimit * i + moveCount moves ≤ x)
-        cases (yes l) k = inl l
-        cases (no l) (no k) = inr (omega arith)
-        cases (no l) (yes k) = absurd (n (omega arith, omega arith))
-
-    pub filled-more : {table′ table″ : List ℕ} → FilledTo N moves table i table′ → CarrierFilled N moves i table′ table″ → FilledTo N moves table (i + 1) table″
-    filled-more {table′} {table″} f c = record {
-      size = c .size ∙ f .size;
-      starts = λ u j h l. by-carrier (λ (v : ℕ). DistanceIs (floor N) (startIn moves v) (startIn moves j) (tablesIn table″ .ss v j)) u h (c .starts j l)
-          (λ k. rw (c .others (carrierLimit * u + j) (rw zero-add at (other-carrier 0 u i j few k (omega arith) l (omega arith)))) (f .starts u j k l));
-      goals = λ u j h l. by-carrier (λ (v : ℕ). DistanceIs (floor N) (goalIn moves v) (goalIn moves j) (tablesIn table″ .gg v j)) u h (c .goals j l)
-          (λ k. rw (c .others (8192 + (carrierLimit * u + j)) (other-carrier 2 u i j few k (omega arith) l (omega arith))) (f .goals u j k l));
-      start-goal = λ u j h l. by-carrier (λ (v : ℕ). DistanceIs (floor N) (startIn moves v) (goalIn moves j) (tablesIn table″ .sg v j)) u h (c .start-goal j l)
-          (λ k. rw (c .others (blockLength + (carrierLimit * u + j)) (other-carrier 1 u i j few k (omega arith) l (omega arith))) (f .start-goal u j k l));
-      unused = λ x h n. c .others x (unused-elsewhere x n) ∙ f .unused x h (λ e. n (omega (arith, e .0), e .1));
-      beyond = λ x h. c .others x (λ b l. inr (omega arith)) ∙ f .beyond x h;
+  module _ (n : ℕ) {table′ : List ℕ} (f : FilledTo N moves table n table′) where
+    -- a node that came before has its rows
+    pub filled-same : Among moves n (getD moves n 0) → FilledTo N moves table (n + 1) table′
+    filled-same earlier = record {
+      size = f .size;
+      held = λ block i j b h l a. f .held block i j b h l (before a);
+      unused = f .unused;
+      beyond = f .beyond;
     }
       where
-        by-carrier : (P : ℕ → Type 0) (u : ℕ) → u < i + 1 → P i → (u < i → P u) → P u
-        by-carrier P u h p q = cases (ℕ-discrete u i)
+        before : {v : ℕ} → Among moves (n + 1) v → Among moves n v
+        before {v} a = cases (ℕ-discrete (a .place) n)
           where
-            cases : Dec (u ≡ i) → P u
-            cases (yes e) = subst P (sym e) p
-            cases (no e) = q (omega arith)
+            cases : Dec (a .place ≡ n) → Among moves n v
+            cases (yes e) = record { place = earlier .place; before = earlier .before; same = earlier .same ∙ ap (λ (x : ℕ). getD moves x 0) (sym e) ∙ a .same }
+            cases (no e) = record { place = a .place; before = omega (arith, a .before); same = a .same }
 
-  -- all carriers' places, over a table whose least length was zero
+    pub filled-more : {table″ : List ℕ} → moveCount moves ≤ carrierLimit → NodeFilled N moves (getD moves n 0) table′ table″ → FilledTo N moves table (n + 1) table″
+    filled-more {table″} few c = record {
+      size = c .size ∙ f .size;
+      held = λ block i j b h l a. by-node block i j b h l a (ℕ-discrete (rowEnd moves block i) (getD moves n 0));
+      unused = λ x h not-used. c .others x (λ block b i k e. unused-outside block i x b k not-used) ∙ f .unused x h not-used;
+      beyond = λ x h. c .others x (λ block b i k e. inr (omega arith)) ∙ f .beyond x h;
+    }
+      where
+        -- a place that belongs to no two carriers is in no row
+        unused-outside : (block i x : ℕ) → block < 3 → i < moveCount moves → ¬ Used (moveCount moves) x → OutsideRow (moveCount moves) block i x
+        unused-outside block i x b k not-used = cases (decLt x (blockLength * block + carrierLimit * i)) (decLt x (placeIn block i (moveCount moves)))
+          where
+            cases : Dec (x < blockLength * block + carrierLimit * i) → Dec (x < placeIn block i (moveCount moves)) → OutsideRow (moveCount moves) block i x
+            cases (yes l) m = inl l
+            cases (no l) (no m) = inr (omega arith)
+            cases (no l) (yes m) = absurd (not-used (record { first = omega arith; second = omega arith }))
+
+        -- a row that begins at another node shares no place with one that begins at this
+        other-node : (block i j : ℕ) → i < moveCount moves → j < moveCount moves → ¬ (rowEnd moves block i ≡ getD moves n 0)
+            → (block′ : ℕ) → OutsideRows moves (getD moves n 0) block′ (moveCount moves) (placeIn block i j)
+        other-node block i j h l ne block′ i′ h′ e′ = cases (ℕ-discrete block block′) (decLt i i′) (decLt i′ i)
+          where
+            cases : Dec (block ≡ block′) → Dec (i < i′) → Dec (i′ < i) → OutsideRow (moveCount moves) block′ i′ (placeIn block i j)
+            cases (no x) y z = other-block block block′ few x h h′ l
+            cases (yes x) (yes y) z = inl (omega arith)
+            cases (yes x) (no y) (yes z) = inr (omega arith)
+            cases (yes x) (no y) (no z) =
+                let same : i′ ≡ i = omega arith in
+                absurd (ne (rw (x, ← same) e′))
+
+        by-node : (block i j : ℕ) → block < 3 → i < moveCount moves → j < moveCount moves → Among moves (n + 1) (rowEnd moves block i) → Dec (rowEnd moves block i ≡ getD moves n 0)
+            → DistanceIs (floor N) (rowEnd moves block i) (placeEnd moves block j) (getD table″ (placeIn block i j) 0)
+        by-node block i j b h l a (yes e) = rw e (c .held block i j b h l e)
+        by-node block i j b h l a (no ne) =
+            rw (c .others (placeIn block i j) (λ block′ b′. other-node block i j h l ne block′))
+            (f .held block i j b h l (record { place = a .place; before = earlier (ℕ-discrete (a .place) n); same = a .same }))
+          where
+            earlier : Dec (a .place ≡ n) → a .place < n
+            earlier (yes e) = absurd (ne (sym (a .same) ∙ ap (λ (x : ℕ). getD moves x 0) e))
+            earlier (no e) = omega (arith, a .before)
+
+  -- all starts and goals, over a table whose least length was zero
   pub filled-all : {table′ : List ℕ} → TableServed N moves (length table) → ((x : ℕ) → x < tableLength → getD table x 0 ≡ 0)
-      → FilledTo N moves table (moveCount moves) table′ → TableFilled N moves table table′
-  filled-all s zero-before f = record {
+      → FilledTo N moves table (2 * moveCount moves) table′ → TableFilled N moves table table′
+  filled-all {table′} s zero-before f = record {
     served = s;
-    true-distances = record { starts = f .starts; goals = f .goals; start-goal = f .start-goal };
+    true-distances = record {
+      starts = λ i j h l. distance 0 i j (2 * i) (2 * j) (carrierLimit * i + j) (omega arith) h l (omega arith) (omega arith) (omega arith);
+      goals = λ i j h l. distance 2 i j (2 * i + 1) (2 * j + 1) (goalBlock + (carrierLimit * i + j)) (omega arith) h l (omega arith) (omega arith) (omega arith);
+      start-goal = λ i j h l. distance 1 i j (2 * i) (2 * j + 1) (blockLength + (carrierLimit * i + j)) (omega arith) h l (omega arith) (omega arith) (omega arith);
+    };
     table-left = record {
       size = f .size;
-      unused = λ x h n. f .unused x h (λ e. n (record { first = e .0; second = e .1 })) ∙ zero-before x h;
+      unused = λ x h n. f .unused x h n ∙ zero-before x h;
       beyond = f .beyond;
     };
   }
+    where
+      -- each row begins at a start or a goal, and each of these came
+      distance : (block i j first second place : ℕ) → block < 3 → i < moveCount moves → j < moveCount moves
+          → 2 * i + block / 2 ≡ first → 2 * j + (block + 1) / 2 ≡ second → placeIn block i j ≡ place
+          → DistanceIs (floor N) (getD moves first 0) (getD moves second 0) (getD table′ place 0)
+      distance block i j first second place b h l e₁ e₂ e₃ =
+          rw (← e₁, ← e₂, ← e₃) (f .held block i j b h l (record { place = 2 * i + block / 2; before = omega arith; same = refl }))
 
 -- what the tests leave is served
 pub served-by : (N : Network) (moves : List ℕ) {room : ℕ} → N .nodes ≤ nodeLimit → moveCount moves ≤ carrierLimit → tableLength ≤ room

@@ -1,33 +1,62 @@
--- What the steps of filling promise to one another. No public promise cites them.
+-- What the steps of filling promise to one another. No public promise cites them. A table has three blocks:
+-- 0 start to start, 1 start to goal, 2 goal to goal. In each a carrier has one row, with a place for every
+-- carrier.
+--     rowEnd          the node at which carrier i's row of a block begins: its start, or in block 2 its goal
+--     placeEnd        the node at which the row is read for carrier j: its start in block 0, else its goal
+--     placeIn         the place of carriers i and j in a block
 --     RowCopied       the distances of a row at the starts or the goals (offset 0 or 1) of k moves stand in
 --                     the table from `base` on; nothing else changed
---     Elsewhere       place x is none of carrier i's in a job of k
---     CarrierFilled   the three rows of carrier i stand in the table; nothing else changed
+--     OutsideRow      place x is none of carrier i's row of a block, in a job of k
+--     OutsideRows     it is in none of the block's rows that begin at the node, of the first n carriers
+--     RowsCopied      the distances of a row stand in the block's rows that begin at the node, of the first n
+--                     carriers; nothing else changed
+--     NodeFilled      all rows that begin at the node hold the distances from it; nothing else changed
+--     Among           the node is one of the first `end` numbers of the moves
 use mathlib.Core.Path.{_≡_}
 use mathlib.Core.Logic.{_⊎_}
 use mathlib.Core.List.{List}
-use Prim.Native.Nat.{ℕ, _+_, _*_, _≤_, _<_}
+use Prim.Native.Nat.{ℕ, _+_, _*_, _/_, _≤_, _<_}
 use lib.ListN.{length, getD}
 use Rattle.hall.specs.Limits.{carrierLimit, blockLength}
 use Rattle.hall.specs.Floor.{Network, floor, DistanceIs}
-use Rattle.hall.specs.Job.{moveCount, startIn, goalIn}
-use Rattle.hall.specs.Plan.{tablesIn}
+use Rattle.hall.specs.Job.{moveCount}
+
+abbrev pub rowEnd : List ℕ → ℕ → ℕ → ℕ
+rowEnd moves block i = getD moves (2 * i + block / 2) 0
+
+abbrev pub placeEnd : List ℕ → ℕ → ℕ → ℕ
+placeEnd moves block j = getD moves (2 * j + (block + 1) / 2) 0
+
+abbrev pub placeIn : ℕ → ℕ → ℕ → ℕ
+placeIn block i j = blockLength * block + carrierLimit * i + j
 
 pub record RowCopied (row moves : List ℕ) (offset k base : ℕ) (table table′ : List ℕ) : Type 0 where
   pub size : length table′ ≡ length table
   pub copied : (j : ℕ) → j < k → getD table′ (base + j) 0 ≡ getD row (getD moves (2 * j + offset) 0) 0
   pub others : (x : ℕ) → (x < base) ⊎ (base + k ≤ x) → getD table′ x 0 ≡ getD table x 0
 
-abbrev pub Elsewhere : ℕ → ℕ → ℕ → Type 0
-Elsewhere k i x = (b : ℕ) → b < 3
-    → (x < blockLength * b + carrierLimit * i) ⊎ (blockLength * b + carrierLimit * i + k ≤ x)
+abbrev pub OutsideRow : ℕ → ℕ → ℕ → ℕ → Type 0
+OutsideRow k block i x = (x < blockLength * block + carrierLimit * i) ⊎ (placeIn block i k ≤ x)
 
-pub record CarrierFilled (N : Network) (moves : List ℕ) (i : ℕ) (table table′ : List ℕ) : Type 0 where
+abbrev pub OutsideRows : List ℕ → ℕ → ℕ → ℕ → ℕ → Type 0
+OutsideRows moves node block n x = (i : ℕ) → i < n → rowEnd moves block i ≡ node
+    → OutsideRow (moveCount moves) block i x
+
+pub record RowsCopied (row moves : List ℕ) (node block n : ℕ) (table table′ : List ℕ) : Type 0 where
   pub size : length table′ ≡ length table
-  pub starts : (j : ℕ) → j < moveCount moves
-      → DistanceIs (floor N) (startIn moves i) (startIn moves j) (tablesIn table′ .ss i j)
-  pub goals : (j : ℕ) → j < moveCount moves
-      → DistanceIs (floor N) (goalIn moves i) (goalIn moves j) (tablesIn table′ .gg i j)
-  pub start-goal : (j : ℕ) → j < moveCount moves
-      → DistanceIs (floor N) (startIn moves i) (goalIn moves j) (tablesIn table′ .sg i j)
-  pub others : (x : ℕ) → Elsewhere (moveCount moves) i x → getD table′ x 0 ≡ getD table x 0
+  pub copied : (i j : ℕ) → i < n → j < moveCount moves → rowEnd moves block i ≡ node
+      → getD table′ (placeIn block i j) 0 ≡ getD row (placeEnd moves block j) 0
+  pub others : (x : ℕ) → OutsideRows moves node block n x → getD table′ x 0 ≡ getD table x 0
+
+pub record NodeFilled (N : Network) (moves : List ℕ) (node : ℕ) (table table′ : List ℕ) : Type 0 where
+  pub size : length table′ ≡ length table
+  pub held : (block i j : ℕ) → block < 3 → i < moveCount moves → j < moveCount moves
+      → rowEnd moves block i ≡ node
+      → DistanceIs (floor N) node (placeEnd moves block j) (getD table′ (placeIn block i j) 0)
+  pub others : (x : ℕ) → ((block : ℕ) → block < 3 → OutsideRows moves node block (moveCount moves) x)
+      → getD table′ x 0 ≡ getD table x 0
+
+pub record Among (moves : List ℕ) (end node : ℕ) : Type 0 where
+  pub place : ℕ
+  pub before : place < end
+  pub same : getD moves place 0 ≡ node

@@ -5,7 +5,8 @@
 // tells which carrier is the lowest without a walk to its goal (rule 8.8). `measure` does both, and leaves
 // the carriers' own distances in a list of theirs.
 //
-// Cost: two distance walks a carrier, 128 at the most.
+// Cost: one distance walk for each different node that is a start or a goal, 128 at the most. What a walk
+// finds is copied to the rows of all carriers whose start or goal its node is.
 use hall::Carrier;
 use hall::Job;
 use hall::zero::zero_first;
@@ -19,11 +20,8 @@ ghost use Rattle.hall.specs.Floor.{networkOf};
 ghost use Rattle.hall.specs.Job.{moveCount};
 ghost use Rattle.hall.specs.Rule.{Answers};
 ghost use Rattle.tables.specs.Filling.{EachBelow, TableServed, Filling, TableFilled};
+ghost use Rattle.tables.specs.Blocks.{RowCopied, RowsCopied, Among, NodeFilled};
 ghost use Rattle.tables.specs.Measuring.{Reaching, OwnCopied, Measuring};
-ghost use Rattle.tables.specs.Blocks.{RowCopied, CarrierFilled};
-
-// Where the third block begins.
-const GOALS: usize = 2 * Job::BLOCK;
 
 // Whether every start and every goal is a node.
 fn all_nodes(nodes: usize, moves: &[u16]) -> bool
@@ -60,33 +58,72 @@ fn copy_row(row: &[u16], moves: &[u16], offset: usize, base: usize, table: &mut 
     }
 }
 
-// The three rows of carrier i.
-fn fill_carrier(
+// Copies the distances from a node to the block's row of each carrier whose row begins at the node. In block
+// 0 a row begins at its carrier's start and is read at the starts, in block 1 it begins at the start and is
+// read at the goals, and in block 2 it begins at the goal and is read at the goals.
+fn copy_rows(row: &[u16], moves: &[u16], node: u16, block: usize, table: &mut [u16])
+    requires { ⌜ (block < 3)
+        × (moveCount (now moves) ≤ carrierLimit)
+        × (tableLength ≤ length (now table))
+        × EachBelow (now moves) (length (now row)) ⌝ }
+    ensures { λ _. ⌜ RowsCopied (now (row .entry)) (now (moves .entry))
+        node block (moveCount (now (moves .entry)))
+        (now (table .entry)) (now (table .exit)) ⌝ }
+{
+    let count = moves.len() / 2;
+    let from = block / 2;
+    let to = (block + 1) / 2;
+    let mut i: usize = 0;
+    while i < count {
+        let base = Job::BLOCK * block + Job::CARRIERS * i;
+        if moves[2 * i + from] == node {
+            copy_row(row, moves, to, base, table);
+            i += 1;
+        } else {
+            i += 1;
+        }
+    }
+}
+
+// The rows of all carriers whose start or goal is the node, by one walk.
+fn fill_node(
     nodes: usize,
     lanes: &[u16],
     closed: &[u16],
     moves: &[u16],
-    i: usize,
+    node: u16,
     table: &mut [u16],
 )
     requires { ⌜ TableServed (networkOf nodes (now lanes) (now closed)) (now moves) (length (now table))
-        × (i < moveCount (now moves)) ⌝ }
-    ensures { λ _. ⌜ CarrierFilled (networkOf nodes (now (lanes .entry)) (now (closed .entry)))
-        (now (moves .entry)) i
+        × (node < nodes) ⌝ }
+    ensures { λ _. ⌜ NodeFilled (networkOf nodes (now (lanes .entry)) (now (closed .entry)))
+        (now (moves .entry)) node
         (now (table .entry)) (now (table .exit)) ⌝ }
 {
     let mut row = [0u16; Job::NODES];
-    let base = Job::CARRIERS * i;
-    let from = moves[2 * i];
-    let to = moves[2 * i + 1];
-    distances(nodes, lanes, closed, from, &mut row);
-    copy_row(&row, moves, 0, base, table);
-    copy_row(&row, moves, 1, Job::BLOCK + base, table);
-    distances(nodes, lanes, closed, to, &mut row);
-    copy_row(&row, moves, 1, GOALS + base, table);
+    distances(nodes, lanes, closed, node, &mut row);
+    copy_rows(&row, moves, node, 0, table);
+    copy_rows(&row, moves, node, 1, table);
+    copy_rows(&row, moves, node, 2, table);
 }
 
-// The rows of all carriers, over a table whose first places are zero.
+// Whether the node is one of the first `end` numbers of the moves.
+fn among(moves: &[u16], end: usize, node: u16) -> bool
+    requires { ⌜ end ≤ length (now moves) ⌝ }
+    ensures { λ r. ⌜ Answers r (Among (now (moves .entry)) end node) ⌝ }
+{
+    let mut x: usize = 0;
+    while x < end {
+        if moves[x] == node {
+            return true;
+        }
+        x += 1;
+    }
+    false
+}
+
+// The rows of all carriers, over a table whose first places are zero. A node that came before, as a start or
+// as a goal, has its rows already and gets no second walk.
 fn fill_all(nodes: usize, lanes: &[u16], closed: &[u16], moves: &[u16], table: &mut [u16])
     requires { ⌜ TableServed (networkOf nodes (now lanes) (now closed)) (now moves) (length (now table))
         × ((x : ℕ) → x < tableLength → getD (now table) x 0 ≡ 0) ⌝ }
@@ -94,11 +131,16 @@ fn fill_all(nodes: usize, lanes: &[u16], closed: &[u16], moves: &[u16], table: &
         (now (moves .entry))
         (now (table .entry)) (now (table .exit)) ⌝ }
 {
-    let count = moves.len() / 2;
-    let mut i: usize = 0;
-    while i < count {
-        fill_carrier(nodes, lanes, closed, moves, i, table);
-        i += 1;
+    let ends = moves.len() / 2 * 2;
+    let mut x: usize = 0;
+    while x < ends {
+        let node = moves[x];
+        if among(moves, x, node) {
+            x += 1;
+        } else {
+            fill_node(nodes, lanes, closed, moves, node, table);
+            x += 1;
+        }
     }
 }
 

@@ -1,46 +1,74 @@
--- `tables::fill_all` meets its contract. The invariant: the rows of the carriers before i are filled, and
--- every other place is as it came, `FilledTo`. The measure is how many carriers are left. Assumes nothing.
+-- `tables::fill_all` meets its contract. The invariant: the rows that begin at one of the first x starts and
+-- goals are filled, and a place in no row is as it came, `FilledTo`. The measure is how many starts and goals
+-- are left. Assumes nothing.
 use borrow.Author.Needs.{needs}
-use mathlib.Core.Path.{_≡_, refl}
-use Prim.Native.Nat.{_-_, _≤_}
+use mathlib.Core.Path.{_≡_}
+use Prim.Native.Nat.{_*_, _-_, _≤_}
 use native.Mathlib.Omega.{arith}
 use lib.ListN.{length}
 use Rattle.hall.specs.Limits.{tableLength}
 use Rattle.hall.specs.Floor.{networkOf}
 use Rattle.hall.specs.Job.{moveCount}
-use Rattle.tables.proofs.Blocks.{FilledTo, filled-none, filled-more, filled-all}
+use Rattle.hall.proofs.Answers.{affirmed}
+use Rattle.tables.proofs.Blocks.{FilledTo, filled-none, filled-more, filled-same, filled-all}
 use Rattle.tables.proofs.fill_all.Statement.{statement}
 use Rattle.tables.proofs.fill_all.Tie as tie
 
 abbrev Inv-loop : tie.InvT-loop
-Inv-loop nodes lanes closed moves table₀ count i₀ table i =
-    (count ≡ moveCount moves) × (i ≤ count) × FilledTo (networkOf nodes lanes closed) moves table₀ i table
+Inv-loop nodes lanes closed moves table₀ ends x₀ table x =
+    (ends ≡ 2 * moveCount moves) × (x ≤ ends) × FilledTo (networkOf nodes lanes closed) moves table₀ x table
 
 abbrev μ-loop : tie.MeasureT-loop
-μ-loop nodes lanes closed moves table₀ count i₀ table i = count - i
+μ-loop nodes lanes closed moves table₀ ends x₀ table x = ends - x
+
+mul-ends : tie.Need-mul-ends Inv-loop μ-loop
+mul-ends c = search needs
 
 loop-holds : tie.Need-loop-holds Inv-loop μ-loop
-loop-holds c = (refl, omega arith, filled-none _ _ _)
+loop-holds c = (omega arith, omega arith, filled-none _ _ _)
 
-fill-carrier-requires : tie.Need-fill-carrier-requires Inv-loop μ-loop
-fill-carrier-requires c κs =
-    let loop = c .before .before in
-    let first = loop .before .before .before .before .before in
-    let served = first .pre .0 in
-    let room : tableLength ≤ length (loop .loop .table) = omega (arith, served .whole-table, loop .loop .inv .2 .size) in
-    (record { few-nodes = served .few-nodes; few-carriers = served .few-carriers; whole-table = room; numbered = served .numbered }, omega arith)
+mul-node : tie.Need-mul-node Inv-loop μ-loop
+mul-node c = search needs
 
-add-i : tie.Need-add-i Inv-loop μ-loop
-add-i c = search needs
+shared-slice-read-node : tie.Need-shared-slice-read-node Inv-loop μ-loop
+shared-slice-read-node c = search needs
+
+among-requires : tie.Need-among-requires Inv-loop μ-loop
+among-requires c κs = search needs
+
+add-x : tie.Need-add-x Inv-loop μ-loop
+add-x c = search needs
 
 loop-less : tie.Need-loop-less Inv-loop μ-loop
 loop-less c = search needs
 
 loop-again : tie.Need-loop-again Inv-loop μ-loop
 loop-again c =
+    let loop = c .before .before .before .before in
+    let earlier = affirmed (c .before .among .result) (c .if1 .taken) (c .before .among .ensures) in
+    (omega arith, omega arith, filled-same _ _ _ (loop .loop .x) (loop .loop .inv .2) earlier)
+
+fill-node-requires : tie.Need-fill-node-requires Inv-loop μ-loop
+fill-node-requires c κs =
     let loop = c .before .before .before .before .before in
     let first = loop .before .before .before .before .before in
-    (refl, omega arith, filled-more _ _ _ (first .pre .0 .few-carriers) (loop .loop .i) (omega arith) (loop .loop .inv .2) (c .before .before .fill-carrier .ensures))
+    let served = first .pre .0 in
+    let room : tableLength ≤ length (loop .loop .table) = omega (arith, served .whole-table, loop .loop .inv .2 .size) in (
+      record { few-nodes = served .few-nodes; few-carriers = served .few-carriers; whole-table = room; numbered = served .numbered },
+      served .numbered (loop .loop .x) (omega arith),
+    )
+
+add-x-2 : tie.Need-add-x-2 Inv-loop μ-loop
+add-x-2 c = search needs
+
+loop-less-2 : tie.Need-loop-less-2 Inv-loop μ-loop
+loop-less-2 c = search needs
+
+loop-again-2 : tie.Need-loop-again-2 Inv-loop μ-loop
+loop-again-2 c =
+    let loop = c .before .before .before .before .before .before .before .before in
+    let first = loop .before .before .before .before .before in
+    (omega arith, omega arith, filled-more _ _ _ (loop .loop .x) (loop .loop .inv .2) (first .pre .0 .few-carriers) (c .before .before .fill-node .ensures))
 
 same-length : tie.Need-same-length Inv-loop μ-loop
 same-length c = c .before .loop .inv .2 .size
@@ -49,7 +77,7 @@ returns : tie.Need-returns Inv-loop μ-loop
 returns c =
     let loop = c .before in
     let first = loop .before .before .before .before .before in
-    let all : loop .loop .i ≡ moveCount (first .args .moves .now) = omega arith in
+    let all : loop .loop .x ≡ 2 * moveCount (first .args .moves .now) = omega arith in
     filled-all _ _ _ (first .pre .0) (first .pre .1) (rw all at (loop .loop .inv .2))
 
 pub fill-all-spec : {M : Type 1} → statement M
@@ -58,10 +86,17 @@ fill-all-spec =
     (tie.spec
     Inv-loop
     μ-loop
+    mul-ends
     loop-holds
-    fill-carrier-requires
-    add-i
+    mul-node
+    shared-slice-read-node
+    among-requires
+    add-x
     loop-less
     loop-again
+    fill-node-requires
+    add-x-2
+    loop-less-2
+    loop-again-2
     same-length
     returns)
