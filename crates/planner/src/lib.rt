@@ -4,7 +4,7 @@
 // It goes by three steps, of which a planner with another search for start ticks takes the first two: what
 // comes before the table (`receive`), the table with 8 (`tables::measure`), the start ticks.
 //
-// Work at the limit of 64 carriers: 128 distance walks (see crate tables) and at most some 90,000 pair tests
+// Work at the limit of 64 carriers: at most 128 distance walks (see crate tables) and some 90,000 pair tests
 // (see crate ticks).
 ghost use denote.Ref.{now};
 ghost use Rattle.hall.specs.Floor.{networkOf};
