@@ -74,7 +74,7 @@ module _ (j : Numbers) (before mid : Lent) (received : Received j before mid) wh
       (ready : Measured (j .network) (j .moves) (mid .table) table′ (mid .distances) distances′) where
     pub ready-served : TicksServed table′ (j .order) (j .dwell) (length (mid .ticks))
     ready-served =
-        job-served j sound (filled-looked (ready .table-filled) .whole-table)
+        job-served j sound (filled-looked (ready .table-filled) .0)
         (kept-length carrierLimit (before .ticks) ticks-are (λ h. roomy (short-ticks h)))
 
     pub ready-owns : (i : ℕ) → i < carriers j → own (tablesIn table′) i ≤ distanceLimit

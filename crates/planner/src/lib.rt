@@ -20,7 +20,7 @@ use hall::Refusal;
 use hall::zero::zero_first;
 use hall::zero::zero_ticks;
 use network::checks::check_job;
-use tables::Reach;
+use tables::Tabled;
 use tables::measure;
 use ticks::Timed;
 use ticks::start_ticks;
@@ -111,7 +111,7 @@ pub fn plan_moves(
         return Planned::Refused(refusal);
     }
     match measure(nodes, lanes, closed, moves, table, distances) {
-        Reach::All => {
+        Tabled::All => {
             let timed = start_ticks(table, order, dwell, ticks);
             match timed {
                 Timed::Cost(cost) => Planned::Cost(cost),
@@ -119,10 +119,10 @@ pub fn plan_moves(
                 Timed::Unserved => Planned::Cost(0),
             }
         }
-        Reach::Lost(carrier) => {
+        Tabled::Lost(carrier) => {
             Planned::Refused(Refusal::new(Fault::Unreachable, carrier.0 as usize))
         }
         // What is received is served: no call comes here.
-        Reach::Unserved => Planned::Cost(0),
+        Tabled::Unserved => Planned::Cost(0),
     }
 }

@@ -4,16 +4,18 @@
 --     moves-served                  a job without the faults that are asked before its order's entries is
 --                                   served with a table
 --     fill-worked, fill-declined    what `fill` answers, where its answer is turned round
---     filled-looked                 a filled table is looked at
+--     filled-looked                 a filled table has its three blocks, and no more carriers than a job can
+--                                   have
+--     all-unmarked                  what is looked at and has nothing lost has no mark
 --     lost-first                    its lowest marked carrier is the first of 8
 --     reached-walks                 where none is marked, nothing of 8 holds
 --     measured-owns                 where nothing of 8 holds, no own distance is the mark
 --     measured-small                so each is at most 1,023
---     never-unserved, is-lost, is-measured    the outcomes of measuring
+--     is-lost, is-measured          the outcomes of measuring
 --     says-all, says-lost           what its answer tells
 --     served-measured               what is served is not answered as unserved
 use mathlib.Core.Path.{_≡_, refl, _∙_, ap}
-use mathlib.Core.Logic.{_≢_}
+use mathlib.Core.Logic.{inl, inr, _≢_}
 use mathlib.Core.Bool.{Bool, true, false, not}
 use mathlib.Core.List.{List, [], _∷_}
 use Prim.Native.Nat.{ℕ, _≤_, _<_}
@@ -35,9 +37,11 @@ use Rattle.hall.proofs.Places.{each-first, each-none, none-each}
 use Rattle.hall.proofs.Sound.{MovesSound, moves-sound}
 use Rattle.hall.proofs.Left.{zeroed-same, zeroed-length, row-changed}
 use Rattle.tables.specs.declared.Reach.{Reach}
-use Rattle.tables.specs.declared.Reach.the-variants.{All, Lost, Unserved}
+use Rattle.tables.specs.declared.Reach.the-variants as reach
+use Rattle.tables.specs.declared.Tabled.{Tabled}
+use Rattle.tables.specs.declared.Tabled.the-variants.{All, Lost, Unserved}
 use Rattle.tables.specs.Filling.{TableServed, TableFilled, TableUntouched, Filling}
-use Rattle.tables.specs.Measuring.{ReachServed, NoneLost, FirstLost, Reaching}
+use Rattle.tables.specs.Filling.{FirstLost, NoneLost, looked, unserved, saidReach, Reaching}
 use Rattle.tables.specs.Measuring.{MeasureServed, Measured, LostLeft, Unmeasured, Measuring, OwnCopied}
 use Rattle.tables.proofs.Blocks.{end-below}
 
@@ -63,11 +67,8 @@ module _ {N : Network} {moves table table′ : List ℕ} where
   fill-declined false e f = f
 
 module _ {N : Network} {moves table table′ : List ℕ} (f : TableFilled N moves table table′) where
-  pub filled-looked : ReachServed table′ (moveCount moves)
-  filled-looked = record {
-    whole-table = omega (arith, f .table-left .size, f .served .whole-table);
-    few-carriers = f .served .few-carriers;
-  }
+  pub filled-looked : (tableLength ≤ length table′) × (moveCount moves ≤ carrierLimit)
+  filled-looked = (omega (arith, f .table-left .size, f .served .whole-table), f .served .few-carriers)
 
   own-is : (i : ℕ) → i < moveCount moves →
       DistanceIs (floor N) (startIn moves i) (goalIn moves i) (own (tablesIn table′) i)
@@ -80,10 +81,15 @@ module _ {N : Network} {moves table table′ : List ℕ} (f : TableFilled N move
       (record { clear = λ i l. (unmarked-walk (own-is i (omega (arith, lost .is-carrier))) (lost .none-lower i l), tt) })
       (here (refl, marked-none (own-is c (lost .is-carrier)) (lost .marked))))
 
+  all-unmarked : NoneLost table′ (moveCount moves) → (i : ℕ) → i < moveCount moves → own (tablesIn table′) i ≢ noWalkMark
+  all-unmarked (looked whole few none) i l = none i l
+  all-unmarked (unserved (inl h)) i l = absurd (let x : ⊥ = omega (arith, filled-looked) in x)
+  all-unmarked (unserved (inr h)) i l = absurd (let x : ⊥ = omega (arith, filled-looked) in x)
+
   reached-walks : NoneLost table′ (moveCount moves) → None (eachWalk N moves ∷ [])
   reached-walks all =
       none-more
-      (each-none (walkChecks N moves) (record { clear = λ i l. (unmarked-walk (own-is i l) (all .unmarked i l), tt) }))
+      (each-none (walkChecks N moves) (record { clear = λ i l. (unmarked-walk (own-is i l) (all-unmarked all i l), tt) }))
       none-at-all
 
   pub measured-owns : None (eachWalk N moves ∷ []) → (i : ℕ) → i < moveCount moves → own (tablesIn table′) i ≢ noWalkMark
@@ -94,21 +100,21 @@ module _ {N : Network} {moves table table′ : List ℕ} (f : TableFilled N move
 
   -- ---- the outcomes of measuring, by what the search for the lowest says
 
-  pub never-unserved : {r : Reach} → r ≡ Unserved → Reaching table′ (moveCount moves) r → ⊥
-  never-unserved e said = let none : ¬ ReachServed table′ (moveCount moves) = rw e at said in none filled-looked
-
   module _ (distances : List ℕ) (enough : carrierLimit ≤ length distances) where
-    pub is-lost : {r : Reach} {c : Carrier} {t d : List ℕ} → r ≡ Lost c → Reaching table′ (moveCount moves) r →
+    pub is-lost : {r : Reach} {c : Carrier} {t d : List ℕ} → r ≡ reach.Lost c →
+        Reaching table′ (moveCount moves) (saidReach r) →
         t ≡ zeroed tableLength table′ → d ≡ zeroed carrierLimit distances →
         LostLeft N moves table t distances d (c .0)
     is-lost {r} {c} told said e z = record {
       served = record { table-served = f .served; enough-distances = enough };
-      first = lost-first (rw told at said);
+      first =
+          let lost : Reaching table′ (moveCount moves) (saidReach (reach.Lost c)) = rw told at said in
+          lost-first (lost .1);
       table-left = e ∙ zeroed-same tableLength table table′ (f .table-left .size) (f .table-left .beyond);
       distances-left = z;
     }
 
-    pub is-measured : {r : Reach} {z d : List ℕ} → r ≡ All → Reaching table′ (moveCount moves) r →
+    pub is-measured : {r : Reach} {z d : List ℕ} → r ≡ reach.All → Reaching table′ (moveCount moves) (saidReach r) →
         z ≡ zeroed carrierLimit distances → OwnCopied table′ (moveCount moves) z d →
         Measured N moves table table′ distances d
     is-measured told said e copied = record {
@@ -123,7 +129,7 @@ module _ {N : Network} {moves table table′ : List ℕ} (f : TableFilled N move
 
 -- ---- what the answer of measuring tells
 
-module _ {N : Network} {moves table table′ distances distances′ : List ℕ} {r : Reach} where
+module _ {N : Network} {moves table table′ distances distances′ : List ℕ} {r : Tabled} where
   pub says-all : r ≡ All → Measuring N moves table table′ distances distances′ r →
       Measured N moves table table′ distances distances′
   says-all e a = rw e at a
@@ -137,6 +143,6 @@ module _ {N : Network} {moves table table′ distances distances′ : List ℕ} 
   says-unserved e a = rw e at a
 
 pub served-measured : {N : Network} {moves table distances : List ℕ} → MeasureServed N moves table distances →
-    (table′ distances′ : List ℕ) {r : Reach} → r ≡ Unserved →
+    (table′ distances′ : List ℕ) {r : Tabled} → r ≡ Unserved →
     Measuring N moves table table′ distances distances′ r → ⊥
 served-measured served table′ distances′ e a = says-unserved e a .unserved served

@@ -6,6 +6,7 @@
 --     reaching-unique     so are two of `first_unreached`
 --     measuring-unique    and two of `measure`, with both lists that are left
 use mathlib.Core.Path.{_≡_, refl, sym, _∙_, ap, subst}
+use mathlib.Core.Logic.{inl, inr}
 use mathlib.Core.Bool.{Bool, true, false}
 use mathlib.Core.List.{List}
 use Prim.Native.Nat.{ℕ, _/_, _%_, _≤_, _<_}
@@ -15,7 +16,6 @@ use lib.ListN.{getD}
 use lib.Seq.{ext-getD}
 use Rattle.hall.specs.Limits.{carrierLimit, blockLength, tableLength}
 use Rattle.hall.specs.Floor.{Network}
-use Rattle.hall.specs.declared.Carrier.{Carrier}
 use Rattle.hall.specs.Job.{moveCount}
 use Rattle.hall.specs.Ticks.{own}
 use Rattle.hall.specs.Plan.{tablesIn}
@@ -24,9 +24,12 @@ use Rattle.hall.proofs.Lowest.{dec-and}
 use Rattle.hall.proofs.Stages.{first-unique, none-excludes}
 use Rattle.hall.proofs.Left.{row-unique}
 use Rattle.tables.specs.declared.Reach.{Reach}
-use Rattle.tables.specs.declared.Reach.the-variants.{All, Lost, Unserved}
-use Rattle.tables.specs.Filling.{Used, TableFilled, Filling}
-use Rattle.tables.specs.Measuring.{FirstLost, Reaching, MeasureServed, Measured, Measuring}
+use Rattle.tables.specs.declared.Reach.the-variants.{All, Lost}
+use Rattle.tables.specs.declared.Tabled.{Tabled}
+use Rattle.tables.specs.declared.Tabled.the-variants as tabled
+use Rattle.tables.specs.Filling.{Used, TableFilled, Filling, FirstLost, NoneLost, looked, unserved}
+use Rattle.tables.specs.Filling.{saidReach, Reaching}
+use Rattle.tables.specs.Measuring.{MeasureServed, Measured, Measuring}
 
 module _ (N : Network) (moves table : List ℕ) where
   module _ (t u : List ℕ) (f : TableFilled N moves table t) (g : TableFilled N moves table u) where
@@ -76,20 +79,20 @@ not-below {c = c} {c′ = c′} a b = cases (decLt c c′)
     cases (yes l) = absurd (b .none-lower c l (a .marked))
     cases (no l) = omega arith
 
-same-lost : {c c′ : Carrier} → c .0 ≡ c′ .0 → Lost c ≡ Lost c′
-same-lost same = ap (λ (n : ℕ). Lost (record { 0 = n })) same
+-- a carrier is answered or none, never both
+not-both : {table : List ℕ} {carriers c : ℕ} → FirstLost table carriers c → NoneLost table carriers → ⊥
+not-both {c = c} a (looked t k none) = none c (a .is-carrier) (a .marked)
+not-both a (unserved (inl short)) = omega (arith, a .whole-table)
+not-both a (unserved (inr many)) = omega (arith, a .few-carriers)
 
 pub reaching-unique : (table : List ℕ) (carriers : ℕ) (r r′ : Reach) →
-    Reaching table carriers r → Reaching table carriers r′ → r ≡ r′
+    Reaching table carriers (saidReach r) → Reaching table carriers (saidReach r′) → r ≡ r′
 reaching-unique table carriers All All a b = refl
-reaching-unique table carriers All (Lost c) a b = absurd (a .unmarked (c .0) (b .is-carrier) (b .marked))
-reaching-unique table carriers All Unserved a b = absurd (b (a .served))
-reaching-unique table carriers (Lost c) All a b = absurd (b .unmarked (c .0) (a .is-carrier) (a .marked))
-reaching-unique table carriers (Lost c) (Lost c′) a b = same-lost (omega (arith, not-below a b, not-below b a))
-reaching-unique table carriers (Lost c) Unserved a b = absurd (b (a .served))
-reaching-unique table carriers Unserved All a b = absurd (a (b .served))
-reaching-unique table carriers Unserved (Lost c) a b = absurd (a (b .served))
-reaching-unique table carriers Unserved Unserved a b = refl
+reaching-unique table carriers All (Lost c) a b = absurd (not-both (b .1) a)
+reaching-unique table carriers (Lost c) All a b = absurd (not-both (a .1) b)
+reaching-unique table carriers (Lost c) (Lost c′) a b =
+    let same : c .0 ≡ c′ .0 = omega (arith, not-below (a .1) (b .1), not-below (b .1) (a .1)) in
+    ap (λ (n : ℕ). Lost (record { 0 = n })) same
 
 module _ (N : Network) (moves table distances t u d e : List ℕ) where
   -- what is measured, with walks or without, is served
@@ -101,21 +104,21 @@ module _ (N : Network) (moves table distances t u d e : List ℕ) where
       row-unique (a .distances-left) (b .distances-left)
       (λ i h. a .own-distances i h ∙ ap (λ (l : List ℕ). own (tablesIn l) i) same ∙ sym (b .own-distances i h))
 
-  pub measuring-unique : (r r′ : Reach) →
+  pub measuring-unique : (r r′ : Tabled) →
       Measuring N moves table t distances d r → Measuring N moves table u distances e r′ →
       (r ≡ r′) × (t ≡ u) × (d ≡ e)
-  measuring-unique All All a b =
+  measuring-unique tabled.All tabled.All a b =
       let same = filled-unique N moves table t u (a .table-filled) (b .table-filled) in (refl, same, same-own a b same)
-  measuring-unique All (Lost c) a b = absurd (none-excludes (b .first) (a .all-walk))
-  measuring-unique All Unserved a b = absurd (b .unserved (is-served a))
-  measuring-unique (Lost c) All a b = absurd (none-excludes (a .first) (b .all-walk))
-  measuring-unique (Lost c) (Lost c′) a b = (
-    same-lost (first-unique (a .first) (b .first) .1),
+  measuring-unique tabled.All (tabled.Lost c) a b = absurd (none-excludes (b .first) (a .all-walk))
+  measuring-unique tabled.All tabled.Unserved a b = absurd (b .unserved (is-served a))
+  measuring-unique (tabled.Lost c) tabled.All a b = absurd (none-excludes (a .first) (b .all-walk))
+  measuring-unique (tabled.Lost c) (tabled.Lost c′) a b = (
+    ap (λ (n : ℕ). tabled.Lost (record { 0 = n })) (first-unique (a .first) (b .first) .1),
     a .table-left ∙ sym (b .table-left),
     a .distances-left ∙ sym (b .distances-left),
   )
-  measuring-unique (Lost c) Unserved a b = absurd (b .unserved (a .served))
-  measuring-unique Unserved All a b = absurd (a .unserved (is-served b))
-  measuring-unique Unserved (Lost c) a b = absurd (a .unserved (b .served))
-  measuring-unique Unserved Unserved a b =
+  measuring-unique (tabled.Lost c) tabled.Unserved a b = absurd (b .unserved (a .served))
+  measuring-unique tabled.Unserved tabled.All a b = absurd (a .unserved (is-served b))
+  measuring-unique tabled.Unserved (tabled.Lost c) a b = absurd (a .unserved (b .served))
+  measuring-unique tabled.Unserved tabled.Unserved a b =
       (refl, a .table-kept ∙ sym (b .table-kept), a .distances-kept ∙ sym (b .distances-kept))

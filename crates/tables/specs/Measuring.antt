@@ -1,11 +1,6 @@
--- The carriers without a walk by a table, and the carriers' own distances (rules 2.6, 8.8, 9.2 and 9.8). A
--- `Reach` answers both questions: every carrier has a walk, or the lowest carrier number that has none, or
--- what is asked is not served.
---     ReachServed     what is looked at: a table with its three blocks, and no more carriers than a job can
---                     have
---     NoneLost        no carrier's own distance is the mark
---     FirstLost       c is the lowest carrier number whose own distance is the mark
---     Reaching        the promise of the question for the lowest carrier without a walk
+-- The distance table of a job with 8 and the carriers' own distances (rules 2.6, 8.8, 9.2 and 9.8). The
+-- answer is a `Tabled`: every carrier has a walk, or the lowest carrier number that has none, or what is asked
+-- is not served.
 --     MeasureServed   what is measured: what is served with a table, and room for as many distances as a job
 --                     can have
 --     Measured        no carrier is without a walk (nothing of 8 holds); the table holds the true distances,
@@ -17,13 +12,12 @@
 --     OwnCopied       what a step promises: the own distances of k carriers stand in the list, and nothing
 --                     else changed. No public promise cites it
 use mathlib.Core.Path.{_≡_}
-use mathlib.Core.Logic.{_≢_}
 use mathlib.Core.List.{List, [], _∷_}
 use Prim.Native.Nat.{ℕ, _≤_, _<_}
 use lib.ListN.{length, getD}
 use Rattle.hall.specs.declared.Fault.the-variants.{Unreachable}
 use Rattle.hall.specs.Numbers.{numberOf}
-use Rattle.hall.specs.Limits.{carrierLimit, tableLength, noWalkMark}
+use Rattle.hall.specs.Limits.{carrierLimit, tableLength}
 use Rattle.hall.specs.Floor.{Network}
 use Rattle.hall.specs.Job.{moveCount}
 use Rattle.hall.specs.Stages.{First, None}
@@ -31,32 +25,9 @@ use Rattle.hall.specs.Questions.{eachWalk}
 use Rattle.hall.specs.Left.{zeroed, RowLeft}
 use Rattle.hall.specs.Ticks.{own}
 use Rattle.hall.specs.Plan.{tablesIn}
-use Rattle.tables.specs.declared.Reach.{Reach}
-use Rattle.tables.specs.declared.Reach.the-variants.{All, Lost, Unserved}
+use Rattle.tables.specs.declared.Tabled.{Tabled}
+use Rattle.tables.specs.declared.Tabled.the-variants.{All, Lost, Unserved}
 use Rattle.tables.specs.Filling.{TableServed, TableFilled}
-
--- ---- the lowest carrier without a walk
-
-pub record ReachServed (table : List ℕ) (carriers : ℕ) : Type 0 where
-  pub whole-table : tableLength ≤ length table
-  pub few-carriers : carriers ≤ carrierLimit
-
-pub record NoneLost (table : List ℕ) (carriers : ℕ) : Type 0 where
-  pub served : ReachServed table carriers
-  pub unmarked : (i : ℕ) → i < carriers → own (tablesIn table) i ≢ noWalkMark
-
-pub record FirstLost (table : List ℕ) (carriers c : ℕ) : Type 0 where
-  pub served : ReachServed table carriers
-  pub is-carrier : c < carriers
-  pub marked : own (tablesIn table) c ≡ noWalkMark
-  pub none-lower : (i : ℕ) → i < c → own (tablesIn table) i ≢ noWalkMark
-
-abbrev pub Reaching : (table : List ℕ) (carriers : ℕ) → Reach → Type 0
-Reaching table carriers All = NoneLost table carriers
-Reaching table carriers (Lost c) = FirstLost table carriers (c .0)
-Reaching table carriers Unserved = ¬ ReachServed table carriers
-
--- ---- the table and the own distances
 
 pub record MeasureServed (N : Network) (moves table distances : List ℕ) : Type 0 where
   pub table-served : TableServed N moves (length table)
@@ -80,7 +51,7 @@ pub record Unmeasured (N : Network) (moves table table′ distances distances′
   pub table-kept : table′ ≡ table
   pub distances-kept : distances′ ≡ distances
 
-abbrev pub Measuring : (N : Network) (moves table table′ distances distances′ : List ℕ) → Reach → Type 0
+abbrev pub Measuring : (N : Network) (moves table table′ distances distances′ : List ℕ) → Tabled → Type 0
 Measuring N moves t t′ d d′ All = Measured N moves t t′ d d′
 Measuring N moves t t′ d d′ (Lost c) = LostLeft N moves t t′ d d′ (c .0)
 Measuring N moves t t′ d d′ Unserved = Unmeasured N moves t t′ d d′

@@ -21,7 +21,8 @@ ghost use Rattle.hall.specs.Job.{moveCount};
 ghost use Rattle.hall.specs.Rule.{Answers};
 ghost use Rattle.tables.specs.Filling.{EachBelow, TableServed, Filling, TableFilled};
 ghost use Rattle.tables.specs.Blocks.{RowCopied, RowsCopied, Among, NodeFilled};
-ghost use Rattle.tables.specs.Measuring.{Reaching, OwnCopied, Measuring};
+ghost use Rattle.tables.specs.Filling.{saidReach, Reaching};
+ghost use Rattle.tables.specs.Measuring.{OwnCopied, Measuring};
 
 // Whether every start and every goal is a node.
 fn all_nodes(nodes: usize, moves: &[u16]) -> bool
@@ -169,24 +170,23 @@ pub fn fill(nodes: usize, lanes: &[u16], closed: &[u16], moves: &[u16], table: &
     true
 }
 
-// Whether every carrier has a walk to its goal; or the lowest carrier number that has none; or what is asked
-// is not served.
+// Whether every carrier has a walk to its goal, by the own distances of a table; or the lowest carrier number
+// that has none.
 pub enum Reach {
     All,
     Lost(Carrier),
-    Unserved,
 }
 
-// Looks for the lowest of the carrier numbers below `carriers` without a walk, by the own distances of a
-// table. A table of fewer than 12,288 numbers and more than 64 carriers are not served.
+// Looks for the lowest of the carrier numbers below `carriers` without a walk. A table of fewer than 12,288
+// numbers and more than 64 carriers are not served: nothing is looked at, and no carrier is answered.
 pub fn first_unreached(table: &[u16], carriers: usize) -> Reach
-    ensures { λ r. ⌜ Reaching (now (table .entry)) carriers r ⌝ }
+    ensures { λ r. ⌜ Reaching (now (table .entry)) carriers (saidReach r) ⌝ }
 {
     if table.len() < Job::TABLE {
-        return Reach::Unserved;
+        return Reach::All;
     }
     if carriers > Job::CARRIERS {
-        return Reach::Unserved;
+        return Reach::All;
     }
     let mut i: usize = 0;
     while i < carriers {
@@ -220,6 +220,14 @@ fn copy_own(table: &[u16], carriers: usize, distances: &mut [u16])
     }
 }
 
+// What measuring answers: every carrier has a walk to its goal; or the lowest carrier number that has none; or
+// what is asked is not served.
+pub enum Tabled {
+    All,
+    Lost(Carrier),
+    Unserved,
+}
+
 // The distance table of the moves, and each carrier's own distance; or the lowest carrier without a walk, and
 // the least lengths of both lists zero. What `fill` does not serve is not served, nor are fewer than 64
 // distances: both lists are then as they came.
@@ -230,7 +238,7 @@ pub fn measure(
     moves: &[u16],
     table: &mut [u16],
     distances: &mut [u16],
-) -> Reach
+) -> Tabled
     ensures { λ r. ⌜ Measuring (networkOf nodes (now (lanes .entry)) (now (closed .entry)))
         (now (moves .entry))
         (now (table .entry)) (now (table .exit))
@@ -240,24 +248,22 @@ pub fn measure(
     let carriers = moves.len() / 2;
     let room = distances.len();
     if room < Job::CARRIERS {
-        return Reach::Unserved;
+        return Tabled::Unserved;
     }
     let filled = fill(nodes, lanes, closed, moves, table);
     if !filled {
-        return Reach::Unserved;
+        return Tabled::Unserved;
     }
     zero_first(distances, Job::CARRIERS);
     match first_unreached(table, carriers) {
         Reach::All => {
             copy_own(table, carriers, distances);
-            Reach::All
+            Tabled::All
         }
         Reach::Lost(carrier) => {
             let whole = Job::TABLE;
             zero_first(table, whole);
-            Reach::Lost(carrier)
+            Tabled::Lost(carrier)
         }
-        // A filled table is served: no call comes here.
-        Reach::Unserved => Reach::Unserved,
     }
 }

@@ -39,7 +39,7 @@ loop-less c = search needs
 loop-again : tie.Need-loop-again Inv-loop μ-loop
 loop-again c =
     let loop = c .before .before .before in
-    (omega arith, below-more _ _ (loop .loop .inv .1) (c .if1 .left))
+    (omega arith, below-more _ _ (loop .loop .inv .1) (λ e. omega (arith, e, c .if1 .left)))
 
 returns-2 : tie.Need-returns-2 Inv-loop μ-loop
 returns-2 c = λ a. c .before .loop .inv .1 (a .place) (omega (arith, a .before)) (a .same)

@@ -2,13 +2,15 @@
 -- own. The measure is how many carriers are left. Assumes nothing.
 use borrow.Author.Needs.{needs}
 use native.Mathlib.Omega.{arith}
-use mathlib.Core.Logic.{_≢_}
+use mathlib.Core.Path.{refl}
+use mathlib.Core.Logic.{inl, inr, _≢_}
 use Prim.Native.Nat.{ℕ, _-_, _≤_, _<_}
 use native.Mathlib.Nat.{not-suc-le-zero}
 use borrow.Author.Count.{below-more}
 use Rattle.hall.specs.Limits.{noWalkMark}
 use Rattle.hall.specs.Ticks.{own}
 use Rattle.hall.specs.Plan.{tablesIn}
+use Rattle.tables.specs.Filling.{looked, unserved}
 use Rattle.tables.proofs.first_unreached.Statement.{statement}
 use Rattle.tables.proofs.first_unreached.Tie as tie
 
@@ -19,10 +21,10 @@ abbrev μ-loop : tie.MeasureT-loop
 μ-loop table carriers i₀ i = carriers - i
 
 returns : tie.Need-returns Inv-loop μ-loop
-returns c s = omega (arith, s .whole-table)
+returns c = unserved (inl (c .if1 .taken))
 
 returns-2 : tie.Need-returns-2 Inv-loop μ-loop
-returns-2 c s = omega (arith, s .few-carriers)
+returns-2 c = unserved (inr (c .if2 .taken))
 
 loop-holds : tie.Need-loop-holds Inv-loop μ-loop
 loop-holds c = (omega arith, λ x h. absurd (not-suc-le-zero h))
@@ -47,13 +49,16 @@ cast-number c = omega arith
 
 returns-3 : tie.Need-returns-3 Inv-loop μ-loop
 returns-3 c =
-    let loop = c .before .before .before in
-    record {
-      served = record { whole-table = omega arith; few-carriers = omega arith };
-      is-carrier = omega arith;
-      marked = c .if3 .taken;
-      none-lower = loop .loop .inv .1;
-    }
+    let loop = c .before .before .before in (
+      refl,
+      record {
+        whole-table = omega arith;
+        few-carriers = omega arith;
+        is-carrier = omega arith;
+        marked = c .if3 .taken;
+        none-lower = loop .loop .inv .1;
+      },
+    )
 
 add-i : tie.Need-add-i Inv-loop μ-loop
 add-i c = search needs
@@ -69,10 +74,7 @@ loop-again c =
 returns-4 : tie.Need-returns-4 Inv-loop μ-loop
 returns-4 c =
     let loop = c .before in
-    record {
-      served = record { whole-table = omega arith; few-carriers = omega arith };
-      unmarked = λ x h. loop .loop .inv .1 x (omega arith);
-    }
+    looked (omega arith) (omega arith) (λ x h. loop .loop .inv .1 x (omega arith))
 
 pub first-unreached-spec : {M : Type 1} → statement M
 first-unreached-spec =

@@ -6,7 +6,7 @@ use mathlib.Core.Path.{refl}
 use native.Mathlib.Omega.{arith}
 use Rattle.hall.specs.Floor.{networkOf}
 use Rattle.tables.specs.Filling.{TableFilled}
-use Rattle.tables.proofs.Measuring.{fill-worked, fill-declined, filled-looked, never-unserved, is-lost, is-measured}
+use Rattle.tables.proofs.Measuring.{fill-worked, fill-declined, filled-looked, is-lost, is-measured}
 use Rattle.tables.proofs.measure.Statement.{statement}
 use Rattle.tables.proofs.measure.Tie as tie
 
@@ -50,16 +50,13 @@ copy-own-requires : tie.Need-copy-own-requires
 copy-own-requires c κs =
     let tested = c .before .before .before .before .before .before .before .before .before .before in
     let looked = filled-looked (filled tested) in
-    (looked .whole-table, looked .few-carriers, omega (arith, c .before .before .before .before .before .before .before .before .zero-first .kept .0))
+    (looked .0, looked .1, omega (arith, c .before .before .before .before .before .before .before .before .zero-first .kept .0))
 
 enum-known-carrier : tie.Need-enum-known-carrier
 enum-known-carrier c = search needs
 
 zero-first-requires-2 : tie.Need-zero-first-requires-2
 zero-first-requires-2 c κs = search needs
-
-enum-told-2 : tie.Need-enum-told-2
-enum-told-2 c = search needs
 
 same-length-2 : tie.Need-same-length-2
 same-length-2 c = search needs
@@ -89,17 +86,6 @@ returns-4 c =
     (c .before .before .before .before .before .carrier .given .1) (searched .first-unreached .ensures)
     (c .before .before .zero-first2 .ensures) (searched .before .before .before .before .zero-first .ensures)
 
-same-length-6 : tie.Need-same-length-6
-same-length-6 c = search needs
-
-same-length-7 : tie.Need-same-length-7
-same-length-7 c = search needs
-
-returns-5 : tie.Need-returns-5
-returns-5 c =
-    let searched = c .before .before in
-    absurd (never-unserved (filled (searched .before .before .before .before .before .before)) (c .enum-told2 .given .1) (searched .first-unreached .ensures))
-
 pub measure-spec : {M : Type 1} → statement M
 measure-spec =
     tie.close
@@ -114,13 +100,9 @@ measure-spec =
     copy-own-requires
     enum-known-carrier
     zero-first-requires-2
-    enum-told-2
     same-length-2
     same-length-3
     returns-3
     same-length-4
     same-length-5
-    returns-4
-    same-length-6
-    same-length-7
-    returns-5)
+    returns-4)
