@@ -73,7 +73,8 @@ fn check_number(carriers: usize, carrier: Carrier) -> Checked
     Checked::Sound
 }
 
-// A job and a carrier number: the listed checks of the job, 8 by rising carrier number, and last 10.
+// A job and a carrier number: the listed checks of the job, 8 at the lowest carrier without a walk,
+// and last 10.
 pub fn check_asked(
     nodes: usize,
     lanes: &[u16],

@@ -8,6 +8,7 @@ use mathlib.Core.Path.{_≡_, _∙_}
 use mathlib.Core.Logic.{_↔_}
 use mathlib.Core.List.{[], _∷_, _++_}
 use Prim.Native.Nat.{ℕ}
+use native.Mathlib.Omega.{arith}
 use Rattle.hall.specs.declared.Fault.{Fault}
 use Rattle.hall.specs.declared.Refusal.{Refusal}
 use Rattle.hall.specs.declared.Checked.{Checked}
@@ -17,6 +18,10 @@ use Rattle.hall.specs.Stages.{NoneIn, FirstStage, NoStage, First, None}
 use Rattle.hall.specs.Numbers.{numberOf}
 use Rattle.hall.specs.Said.{Said, accepted, refused, Fits, Judged}
 use Rattle.hall.proofs.Stages.{Decided, decided-by}
+
+-- an answer is sound or a refusal, and not both
+pub not-both : {c : Checked} {r : Refusal} → c ≡ Refused r → ¬ (c ≡ Sound)
+not-both e s = let z : _≡_ {A = ℕ} 0 1 = cc in omega arith
 
 -- ---- a stage in front
 

@@ -52,7 +52,7 @@ shortest-path h p = rw (dist-unique (p .short) h) at (p .is-path)
 
 module _ {F : Floor} {s g d : ℕ} {l : List ℕ} (p : PathOf F s g d l) (w t : ℕ) where
   -- a node on the way is as far from the goal as lanes are left, and the goal is 0 from itself
-  goal-only-then : Dist F s g d → (x : ℕ) → At w l t x g → (t + d ≤ x) × (x ≤ t + d + w)
+  pub goal-only-then : Dist F s g d → (x : ℕ) → At w l t x g → (t + d ≤ x) × (x ≤ t + d + w)
   goal-only-then short x h =
       let whole : h .gone ≡ d = omega (arith, inside, dist-unique left (dist-self (ends-on-node (short .walk)))) in
       (omega (arith, h .time), omega (arith, h .time, h .within-dwell))
@@ -75,7 +75,7 @@ module _ {F : Floor} {s g d : ℕ} {l : List ℕ} (p : PathOf F s g d l) (w t : 
   }
 
   -- on its way until its goal tick, at its goal from then on
-  present-until : (x : ℕ) → t ≤ x → x ≤ t + d + w → (v : ℕ) × At w l t x v
+  pub present-until : (x : ℕ) → t ≤ x → x ≤ t + d + w → (v : ℕ) × At w l t x v
   present-until x a b = cases (decLt x (t + d))
     where
       cases : Dec (x < t + d) → (v : ℕ) × At w l t x v
@@ -93,7 +93,7 @@ module _ {F : Floor} {s g d : ℕ} {l : List ℕ} (p : PathOf F s g d l) (w t : 
         },
       )
 
-  absent-else : (x v : ℕ) → At w l t x v → (t ≤ x) × (x ≤ t + d + w)
+  pub absent-else : (x v : ℕ) → At w l t x v → (t ≤ x) × (x ≤ t + d + w)
   absent-else x v h = (omega (arith, h .time), omega (arith, h .time, h .present, h .within-dwell, p .size))
 
 -- ---- the distances of two carriers are true

@@ -1,9 +1,8 @@
 -- A job is well formed exactly if none of its listed checks holds of it, and a network by itself exactly if
--- none of its own does. From no fault: each part is the
--- denial of one check; the checks hold each lane only against the one before it, and that any later lane
--- exceeds any earlier one is an induction over the later, since exceeding is transitive, and so of the closed
--- nodes; that every carrier has a place is the counting law behind `place-of`. To no fault: each stage is
--- clear by one part. Assumes nothing.
+-- none of its own does. From no fault: each part is the denial of one check; the checks hold each lane only
+-- against the one before it, and that any later lane exceeds any earlier one is an induction over the later,
+-- since exceeding is transitive, and so of the closed nodes; that every carrier has a place is the counting
+-- law behind `place-of`. To no fault: each stage is clear by one part. Assumes nothing.
 use mathlib.Core.Path.{_≡_, sym, subst}
 use mathlib.Core.Logic.{_↔_, _⊎_, inl, inr, _≢_}
 use mathlib.Core.List.{List, _∷_}

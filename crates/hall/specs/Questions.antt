@@ -23,6 +23,7 @@
 --                        each move. Of the order its length is asked for, and nothing else
 --     checksQuestion     the listed checks of a job: these, then 7
 --     jobQuestion        a job: the same, then 8
+--     receiving          9, then the listed checks of the job: what planning asks before any walk
 --     planning           9, then those of the job
 --     writing            9, then the listed checks of the job; no walk is asked for
 --     moveEnds           2, 3, 12, 4, 5, 13: a network and one move, whose place is 0
@@ -146,6 +147,9 @@ checksQuestion j = movesQuestion j ++ (eachOrderPlace (carriers j) (j .order) �
 
 abbrev pub jobQuestion : Numbers → Question
 jobQuestion j = checksQuestion j ++ (eachWalk (j .network) (j .moves) ∷ [])
+
+abbrev pub receiving : (Short : Type 0) → Numbers → Question
+receiving Short j = shortTable Short ∷ checksQuestion j
 
 abbrev pub planning : (Short : Type 0) → Numbers → Question
 planning Short j = shortTable Short ∷ jobQuestion j

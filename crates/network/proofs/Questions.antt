@@ -1,6 +1,7 @@
 -- Questions in other words. At a place below n, the checks of a stage are those that it has at each place
 -- below n: check by check. What never holds may be left out of a question, at its front or at its end, so the
--- checks of a job without carriers and dwell, up to its order, are the question of its network. Assumes nothing.
+-- checks of a job without carriers and dwell, up to its order, are the question of its network. Assumes
+-- nothing.
 use mathlib.Core.Path.{_≡_, refl}
 use mathlib.Core.Logic.{_↔_}
 use mathlib.Core.List.{[], _∷_, _++_}

@@ -1,5 +1,5 @@
--- What a network and a move that pass the checks before 8 are like: each part is the denial of one check, read
--- off the list of stages. Assumes nothing.
+-- What a network and a move that pass the checks before 8 are like: each part is the denial of one check,
+-- read off the list of stages. Assumes nothing.
 --     MoveSound N s g    at most 1,024 nodes; s and g are open nodes of the network, and differ
 use mathlib.Core.Logic.{inl, inr, _≢_}
 use Prim.Native.Nat.{ℕ, suc, _≤_}

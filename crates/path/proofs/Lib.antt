@@ -1,4 +1,4 @@
--- Laws of the questions about paths: what a sound move is like; neighbours and the house path as the loops go
+-- Laws of the questions about paths: 8 of a sound move; neighbours and the house path as the loops go
 -- over them; a list against the terms of a shortest path. Last what the answers owe to each other: agreement,
 -- one answer for each input, what each answer tells exactly, and that no path stands on a closed node.
 pub mod Reached

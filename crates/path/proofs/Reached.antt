@@ -8,24 +8,18 @@ use Prim.Native.Nat.{ℕ}
 use native.Mathlib.Omega.{arith}
 use lib.ListN.{length, getD}
 use Rattle.hall.specs.declared.Fault.the-variants.{Unreachable}
-use Rattle.hall.specs.declared.Refusal.{Refusal}
-use Rattle.hall.specs.declared.Checked.{Checked}
 use Rattle.hall.specs.declared.Checked.the-variants.{Sound, Refused}
 use Rattle.hall.specs.Limits.{nodeLimit, noWalkMark}
 use Rattle.hall.specs.Floor.{Network}
 use Rattle.hall.specs.Stages.{None}
 use Rattle.hall.specs.Questions.{moveEnds}
 use Rattle.hall.proofs.Walks.{reverse, lanes-symmetric, marked-none}
-use Rattle.hall.proofs.Compose.{none-at-all, none-append, first-after}
+use Rattle.hall.proofs.Compose.{none-at-all, none-append, first-after, not-both}
 use Rattle.hall.proofs.Places.{asked-here, asked-clear}
 use Rattle.network.proofs.SoundMove.{MoveSound, move-sound}
 use Rattle.walk.specs.Row.{RowFilled}
 use Rattle.path.specs.Steps.{Downhill, MoveReached}
 use Rattle.path.proofs.Downhill.{start-distance}
-
--- an answer is sound or a refusal, and not both
-pub not-both : {c : Checked} {r : Refusal} → c ≡ Refused r → ¬ (c ≡ Sound)
-not-both e s = let z : _≡_ {A = ℕ} 0 1 = cc in omega arith
 
 module _ (N : Network) (s g : ℕ) (sound : None (moveEnds N s g)) where
   facts : MoveSound N s g

@@ -60,7 +60,7 @@ module _ (j : Numbers) (before mid : Lent) (received : Received j before mid) wh
   }
 
   pub ready-lost : {table′ distances′ : List ℕ} {c : ℕ} →
-      LostLeft (j .network) (j .moves) (mid .table) table′ (mid .distances) distances′ c →
+      LostLeft (j .network) (j .moves) (mid .table) table′ (mid .distances) distances′ 8 c →
       NumbersRefused j before (lent table′ distances′ (mid .ticks)) 8 c
   ready-lost lost = record {
     first = first-after (received .no-fault) (lost .first);

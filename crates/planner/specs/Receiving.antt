@@ -12,7 +12,7 @@ use Rattle.hall.specs.Limits.{carrierLimit, tableLength}
 use Rattle.hall.specs.Job.{Numbers}
 use Rattle.hall.specs.Stages.{First, None}
 use Rattle.hall.specs.Said.{Said, accepted, refused}
-use Rattle.hall.specs.Questions.{writing}
+use Rattle.hall.specs.Questions.{receiving}
 use Rattle.hall.specs.Left.{zeroed, left}
 use Rattle.planner.specs.Planning.{Lent, lent, ShortOf}
 
@@ -25,11 +25,11 @@ leftOf n l =
     lent (left n tableLength (l .table)) (left n carrierLimit (l .distances)) (left n carrierLimit (l .ticks))
 
 pub record Received (j : Numbers) (before after : Lent) : Type 0 where
-  pub no-fault : None (writing (ShortOf before) j)
+  pub no-fault : None (receiving (ShortOf before) j)
   pub lists-left : after ≡ clearedOf before
 
 pub record ReceivedRefused (j : Numbers) (before after : Lent) (n p : ℕ) : Type 0 where
-  pub first : First (writing (ShortOf before) j) n p
+  pub first : First (receiving (ShortOf before) j) n p
   pub lists-left : after ≡ leftOf n before
 
 abbrev pub Receiving : (j : Numbers) (before after : Lent) → Said Unit → Type 0

@@ -27,8 +27,8 @@ use Rattle.hall.specs.Left.{zeroed}
 use Rattle.hall.proofs.Left.{zeroed-length, zeroed-beyond}
 use Rattle.walk.specs.Row
 use Rattle.tables.specs.Filling.{EachBelow, TableServed, Used, TableFilled}
-use Rattle.tables.specs.Blocks.{rowEnd, placeEnd, placeIn, OutsideRow, OutsideRows, RowsCopied}
-use Rattle.tables.specs.Blocks.{NodeFilled, Among}
+use Rattle.tables.specs.Blocks.{rowFrom, readAt, placeIn, OutsideRow, OutsideRows, RowsCopied}
+use Rattle.tables.specs.Blocks.{NodeFilled, CameBefore}
 
 -- for a caller whose moves have open ends
 pub end-below : (N : Network) {moves : List ℕ} → EndsOn (floor N) moves → EachBelow moves (N .nodes)
@@ -58,12 +58,12 @@ module _ (N : Network) (moves : List ℕ) (node : ℕ) (few : moveCount moves �
       → NodeFilled N moves node table₀ table₃
   node-filled {left = left} {table₀ = table₀} {table₁ = table₁} {table₂ = table₂} {table₃ = table₃} f c₀ c₁ c₂ = record {
     size = c₂ .size ∙ c₁ .size ∙ c₀ .size;
-    held = λ block i j b h l e. rw (in-row block i j b h l e) (f .holds (placeEnd moves block j) (numbered (2 * j + (block + 1) / 2) (omega arith)));
+    held = λ block i j b h l e. rw (in-row block i j b h l e) (f .holds (readAt moves block j) (numbered (2 * j + (block + 1) / 2) (omega arith)));
     others = λ x out. c₂ .others x (out 2 (omega arith)) ∙ c₁ .others x (out 1 (omega arith)) ∙ c₀ .others x (out 0 (omega arith));
   }
     where
-      in-row : (block i j : ℕ) → block < 3 → i < moveCount moves → j < moveCount moves → rowEnd moves block i ≡ node
-          → getD table₃ (placeIn block i j) 0 ≡ getD left (placeEnd moves block j) 0
+      in-row : (block i j : ℕ) → block < 3 → i < moveCount moves → j < moveCount moves → rowFrom moves block i ≡ node
+          → getD table₃ (placeIn block i j) 0 ≡ getD left (readAt moves block j) 0
       in-row zero i j b h l e =
           c₂ .others (placeIn 0 i j) (λ i′ h′ e′. other-block 0 2 few (omega arith) h h′ l)
           ∙ c₁ .others (placeIn 0 i j) (λ i′ h′ e′. other-block 0 1 few (omega arith) h h′ l)
@@ -77,8 +77,8 @@ module _ (N : Network) (moves : List ℕ) (node : ℕ) (few : moveCount moves �
 -- the rows that begin at one of the first n starts and goals are filled; a place in no row is as it came
 pub record FilledTo (N : Network) (moves table : List ℕ) (n : ℕ) (table′ : List ℕ) : Type 0 where
   pub size : length table′ ≡ length table
-  pub held : (block i j : ℕ) → block < 3 → i < moveCount moves → j < moveCount moves → Among moves n (rowEnd moves block i)
-      → DistanceIs (floor N) (rowEnd moves block i) (placeEnd moves block j) (getD table′ (placeIn block i j) 0)
+  pub held : (block i j : ℕ) → block < 3 → i < moveCount moves → j < moveCount moves → CameBefore moves n (rowFrom moves block i)
+      → DistanceIs (floor N) (rowFrom moves block i) (readAt moves block j) (getD table′ (placeIn block i j) 0)
   pub unused : (x : ℕ) → x < tableLength → ¬ Used (moveCount moves) x → getD table′ x 0 ≡ getD table x 0
   pub beyond : (x : ℕ) → tableLength ≤ x → getD table′ x 0 ≡ getD table x 0
 
@@ -93,7 +93,7 @@ module _ (N : Network) (moves table : List ℕ) where
 
   module _ (n : ℕ) {table′ : List ℕ} (f : FilledTo N moves table n table′) where
     -- a node that came before has its rows
-    pub filled-same : Among moves n (getD moves n 0) → FilledTo N moves table (n + 1) table′
+    pub filled-same : CameBefore moves n (getD moves n 0) → FilledTo N moves table (n + 1) table′
     filled-same earlier = record {
       size = f .size;
       held = λ block i j b h l a. f .held block i j b h l (before a);
@@ -101,17 +101,17 @@ module _ (N : Network) (moves table : List ℕ) where
       beyond = f .beyond;
     }
       where
-        before : {v : ℕ} → Among moves (n + 1) v → Among moves n v
+        before : {v : ℕ} → CameBefore moves (n + 1) v → CameBefore moves n v
         before {v} a = cases (ℕ-discrete (a .place) n)
           where
-            cases : Dec (a .place ≡ n) → Among moves n v
+            cases : Dec (a .place ≡ n) → CameBefore moves n v
             cases (yes e) = record { place = earlier .place; before = earlier .before; same = earlier .same ∙ ap (λ (x : ℕ). getD moves x 0) (sym e) ∙ a .same }
             cases (no e) = record { place = a .place; before = omega (arith, a .before); same = a .same }
 
     pub filled-more : {table″ : List ℕ} → moveCount moves ≤ carrierLimit → NodeFilled N moves (getD moves n 0) table′ table″ → FilledTo N moves table (n + 1) table″
     filled-more {table″} few c = record {
       size = c .size ∙ f .size;
-      held = λ block i j b h l a. by-node block i j b h l a (ℕ-discrete (rowEnd moves block i) (getD moves n 0));
+      held = λ block i j b h l a. by-node block i j b h l a (ℕ-discrete (rowFrom moves block i) (getD moves n 0));
       unused = λ x h not-used. c .others x (λ block b i k e. unused-outside block i x b k not-used) ∙ f .unused x h not-used;
       beyond = λ x h. c .others x (λ block b i k e. inr (omega arith)) ∙ f .beyond x h;
     }
@@ -126,7 +126,7 @@ module _ (N : Network) (moves table : List ℕ) where
             cases (no l) (yes m) = absurd (not-used (record { first = omega arith; second = omega arith }))
 
         -- a row that begins at another node shares no place with one that begins at this
-        other-node : (block i j : ℕ) → i < moveCount moves → j < moveCount moves → ¬ (rowEnd moves block i ≡ getD moves n 0)
+        other-node : (block i j : ℕ) → i < moveCount moves → j < moveCount moves → ¬ (rowFrom moves block i ≡ getD moves n 0)
             → (block′ : ℕ) → OutsideRows moves (getD moves n 0) block′ (moveCount moves) (placeIn block i j)
         other-node block i j h l ne block′ i′ h′ e′ = cases (ℕ-discrete block block′) (decLt i i′) (decLt i′ i)
           where
@@ -138,8 +138,8 @@ module _ (N : Network) (moves table : List ℕ) where
                 let same : i′ ≡ i = omega arith in
                 absurd (ne (rw (x, ← same) e′))
 
-        by-node : (block i j : ℕ) → block < 3 → i < moveCount moves → j < moveCount moves → Among moves (n + 1) (rowEnd moves block i) → Dec (rowEnd moves block i ≡ getD moves n 0)
-            → DistanceIs (floor N) (rowEnd moves block i) (placeEnd moves block j) (getD table″ (placeIn block i j) 0)
+        by-node : (block i j : ℕ) → block < 3 → i < moveCount moves → j < moveCount moves → CameBefore moves (n + 1) (rowFrom moves block i) → Dec (rowFrom moves block i ≡ getD moves n 0)
+            → DistanceIs (floor N) (rowFrom moves block i) (readAt moves block j) (getD table″ (placeIn block i j) 0)
         by-node block i j b h l a (yes e) = rw e (c .held block i j b h l e)
         by-node block i j b h l a (no ne) =
             rw (c .others (placeIn block i j) (λ block′ b′. other-node block i j h l ne block′))

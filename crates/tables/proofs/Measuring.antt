@@ -42,7 +42,8 @@ use Rattle.tables.specs.declared.Tabled.{Tabled}
 use Rattle.tables.specs.declared.Tabled.the-variants.{All, Lost, Unserved}
 use Rattle.tables.specs.Filling.{TableServed, TableFilled, TableUntouched, Filling}
 use Rattle.tables.specs.Filling.{FirstLost, NoneLost, looked, unserved, saidReach, Reaching}
-use Rattle.tables.specs.Measuring.{MeasureServed, Measured, LostLeft, Unmeasured, Measuring, OwnCopied}
+use Rattle.tables.specs.Measuring.{MeasureServed, Measured, LostLeft, Unmeasured, saidTabled, Measuring}
+use Rattle.tables.specs.Measuring.{OwnCopied}
 use Rattle.tables.proofs.Blocks.{end-below}
 
 pub moves-served : (j : Numbers) → None (movesQuestion j) → {room : ℕ} → tableLength ≤ room →
@@ -104,7 +105,7 @@ module _ {N : Network} {moves table table′ : List ℕ} (f : TableFilled N move
     pub is-lost : {r : Reach} {c : Carrier} {t d : List ℕ} → r ≡ reach.Lost c →
         Reaching table′ (moveCount moves) (saidReach r) →
         t ≡ zeroed tableLength table′ → d ≡ zeroed carrierLimit distances →
-        LostLeft N moves table t distances d (c .0)
+        LostLeft N moves table t distances d 8 (c .0)
     is-lost {r} {c} told said e z = record {
       served = record { table-served = f .served; enough-distances = enough };
       first =
@@ -118,7 +119,7 @@ module _ {N : Network} {moves table table′ : List ℕ} (f : TableFilled N move
         z ≡ zeroed carrierLimit distances → OwnCopied table′ (moveCount moves) z d →
         Measured N moves table table′ distances d
     is-measured told said e copied = record {
-      enough-distances = enough;
+      served = record { table-served = f .served; enough-distances = enough };
       all-walk = reached-walks (rw told at said);
       table-filled = f;
       own-distances = copied .copied;
@@ -130,19 +131,19 @@ module _ {N : Network} {moves table table′ : List ℕ} (f : TableFilled N move
 -- ---- what the answer of measuring tells
 
 module _ {N : Network} {moves table table′ distances distances′ : List ℕ} {r : Tabled} where
-  pub says-all : r ≡ All → Measuring N moves table table′ distances distances′ r →
+  pub says-all : r ≡ All → Measuring N moves table table′ distances distances′ (saidTabled r) →
       Measured N moves table table′ distances distances′
   says-all e a = rw e at a
 
-  pub says-lost : {c : Carrier} → r ≡ Lost c → Measuring N moves table table′ distances distances′ r →
-      LostLeft N moves table table′ distances distances′ (c .0)
+  pub says-lost : {c : Carrier} → r ≡ Lost c → Measuring N moves table table′ distances distances′ (saidTabled r) →
+      LostLeft N moves table table′ distances distances′ 8 (c .0)
   says-lost e a = rw e at a
 
-  says-unserved : r ≡ Unserved → Measuring N moves table table′ distances distances′ r →
+  says-unserved : r ≡ Unserved → Measuring N moves table table′ distances distances′ (saidTabled r) →
       Unmeasured N moves table table′ distances distances′
   says-unserved e a = rw e at a
 
 pub served-measured : {N : Network} {moves table distances : List ℕ} → MeasureServed N moves table distances →
     (table′ distances′ : List ℕ) {r : Tabled} → r ≡ Unserved →
-    Measuring N moves table table′ distances distances′ r → ⊥
+    Measuring N moves table table′ distances distances′ (saidTabled r) → ⊥
 served-measured served table′ distances′ e a = says-unserved e a .unserved served

@@ -15,7 +15,7 @@ use lib.ListN.{length, getD, set, length-set}
 use lib.Seq.{getD-set-same, getD-set-other}
 use Rattle.hall.specs.Limits.{carrierLimit, blockLength}
 use Rattle.hall.specs.Job.{moveCount}
-use Rattle.tables.specs.Blocks.{rowEnd, placeEnd, placeIn, OutsideRow, RowCopied, RowsCopied}
+use Rattle.tables.specs.Blocks.{rowFrom, readAt, placeIn, OutsideRow, RowCopied, RowsCopied}
 
 module _ (row moves : List ℕ) (offset base : ℕ) (table₀ : List ℕ) where
   pub copied-none : RowCopied row moves offset 0 base table₀ table₀
@@ -47,10 +47,10 @@ module _ (row moves : List ℕ) (node block : ℕ) (table₀ : List ℕ) where
     pub rows-passed : {from : ℕ} → from ≡ block / 2 → getD moves (2 * n + from) 0 ≢ node → RowsCopied row moves node block (n + 1) table₀ table
     rows-passed begins other = record { size = before .size; copied = copied; others = λ x out. before .others x (λ i h e. out i (omega arith) e) }
       where
-        copied : (i j : ℕ) → i < n + 1 → j < moveCount moves → rowEnd moves block i ≡ node → getD table (placeIn block i j) 0 ≡ getD row (placeEnd moves block j) 0
+        copied : (i j : ℕ) → i < n + 1 → j < moveCount moves → rowFrom moves block i ≡ node → getD table (placeIn block i j) 0 ≡ getD row (readAt moves block j) 0
         copied i j h l e = cases (ℕ-discrete i n)
           where
-            cases : Dec (i ≡ n) → getD table (placeIn block i j) 0 ≡ getD row (placeEnd moves block j) 0
+            cases : Dec (i ≡ n) → getD table (placeIn block i j) 0 ≡ getD row (readAt moves block j) 0
             cases (yes s) = absurd (other (rw (begins, ← s) e))
             cases (no s) = before .copied i j (omega arith) l e
 
@@ -66,9 +66,9 @@ module _ (row moves : List ℕ) (node block : ℕ) (table₀ : List ℕ) where
         c : RowCopied row moves ((block + 1) / 2) (moveCount moves) (blockLength * block + carrierLimit * n) table table′
         c = rw (read, based) at copied-row
 
-        copied : (i j : ℕ) → i < n + 1 → j < moveCount moves → rowEnd moves block i ≡ node → getD table′ (placeIn block i j) 0 ≡ getD row (placeEnd moves block j) 0
+        copied : (i j : ℕ) → i < n + 1 → j < moveCount moves → rowFrom moves block i ≡ node → getD table′ (placeIn block i j) 0 ≡ getD row (readAt moves block j) 0
         copied i j h l e = cases (ℕ-discrete i n)
           where
-            cases : Dec (i ≡ n) → getD table′ (placeIn block i j) 0 ≡ getD row (placeEnd moves block j) 0
+            cases : Dec (i ≡ n) → getD table′ (placeIn block i j) 0 ≡ getD row (readAt moves block j) 0
             cases (yes s) = rw s (c .copied j l)
             cases (no s) = c .others (placeIn block i j) (inl (omega arith)) ∙ before .copied i j (omega arith) l e

@@ -29,7 +29,7 @@ use Rattle.tables.specs.declared.Tabled.{Tabled}
 use Rattle.tables.specs.declared.Tabled.the-variants as tabled
 use Rattle.tables.specs.Filling.{Used, TableFilled, Filling, FirstLost, NoneLost, looked, unserved}
 use Rattle.tables.specs.Filling.{saidReach, Reaching}
-use Rattle.tables.specs.Measuring.{MeasureServed, Measured, Measuring}
+use Rattle.tables.specs.Measuring.{Measured, saidTabled, Measuring}
 
 module _ (N : Network) (moves table : List ℕ) where
   module _ (t u : List ℕ) (f : TableFilled N moves table t) (g : TableFilled N moves table u) where
@@ -95,22 +95,19 @@ reaching-unique table carriers (Lost c) (Lost c′) a b =
     ap (λ (n : ℕ). Lost (record { 0 = n })) same
 
 module _ (N : Network) (moves table distances t u d e : List ℕ) where
-  -- what is measured, with walks or without, is served
-  is-served : {t d : List ℕ} → Measured N moves table t distances d → MeasureServed N moves table distances
-  is-served a = record { table-served = a .table-filled .served; enough-distances = a .enough-distances }
-
   same-own : Measured N moves table t distances d → Measured N moves table u distances e → t ≡ u → d ≡ e
   same-own a b same =
       row-unique (a .distances-left) (b .distances-left)
       (λ i h. a .own-distances i h ∙ ap (λ (l : List ℕ). own (tablesIn l) i) same ∙ sym (b .own-distances i h))
 
   pub measuring-unique : (r r′ : Tabled) →
-      Measuring N moves table t distances d r → Measuring N moves table u distances e r′ →
+      Measuring N moves table t distances d (saidTabled r) →
+      Measuring N moves table u distances e (saidTabled r′) →
       (r ≡ r′) × (t ≡ u) × (d ≡ e)
   measuring-unique tabled.All tabled.All a b =
       let same = filled-unique N moves table t u (a .table-filled) (b .table-filled) in (refl, same, same-own a b same)
   measuring-unique tabled.All (tabled.Lost c) a b = absurd (none-excludes (b .first) (a .all-walk))
-  measuring-unique tabled.All tabled.Unserved a b = absurd (b .unserved (is-served a))
+  measuring-unique tabled.All tabled.Unserved a b = absurd (b .unserved (a .served))
   measuring-unique (tabled.Lost c) tabled.All a b = absurd (none-excludes (a .first) (b .all-walk))
   measuring-unique (tabled.Lost c) (tabled.Lost c′) a b = (
     ap (λ (n : ℕ). tabled.Lost (record { 0 = n })) (first-unique (a .first) (b .first) .1),
@@ -118,7 +115,7 @@ module _ (N : Network) (moves table distances t u d e : List ℕ) where
     a .distances-left ∙ sym (b .distances-left),
   )
   measuring-unique (tabled.Lost c) tabled.Unserved a b = absurd (b .unserved (a .served))
-  measuring-unique tabled.Unserved tabled.All a b = absurd (a .unserved (is-served b))
+  measuring-unique tabled.Unserved tabled.All a b = absurd (a .unserved (b .served))
   measuring-unique tabled.Unserved (tabled.Lost c) a b = absurd (a .unserved (b .served))
   measuring-unique tabled.Unserved tabled.Unserved a b =
       (refl, a .table-kept ∙ sym (b .table-kept), a .distances-kept ∙ sym (b .distances-kept))

@@ -1,9 +1,9 @@
 // The distance table of a job (rule 9.8): start to start, start to goal and goal to goal, by carrier numbers.
-// It serves every lane list and every list of closed nodes; more than 1,024 nodes or 64 carriers, a start or
-// goal that is no node and a table that is too short are not served, and the table is then as it came. A
+// `fill` serves every lane list and every list of closed nodes; more than 1,024 nodes or 64 carriers, a start
+// or goal that is no node and a table that is too short are not served, and the table is then as it came. A
 // closed start or goal is served: no walk joins it to anything, so the mark stands there. A filled table
-// tells which carrier is the lowest without a walk to its goal (rule 8.8). `measure` does both, and leaves
-// the carriers' own distances in a list of theirs.
+// tells which carrier is the lowest without a walk to its goal (rule 8.8): `first_unreached`. `measure` fills
+// a table, looks for that carrier, and leaves the carriers' own distances in a list of theirs.
 //
 // Cost: one distance walk for each different node that is a start or a goal, 128 at the most. What a walk
 // finds is copied to the rows of all carriers whose start or goal its node is.
@@ -20,9 +20,9 @@ ghost use Rattle.hall.specs.Floor.{networkOf};
 ghost use Rattle.hall.specs.Job.{moveCount};
 ghost use Rattle.hall.specs.Rule.{Answers};
 ghost use Rattle.tables.specs.Filling.{EachBelow, TableServed, Filling, TableFilled};
-ghost use Rattle.tables.specs.Blocks.{RowCopied, RowsCopied, Among, NodeFilled};
+ghost use Rattle.tables.specs.Blocks.{RowCopied, RowsCopied, CameBefore, NodeFilled};
 ghost use Rattle.tables.specs.Filling.{saidReach, Reaching};
-ghost use Rattle.tables.specs.Measuring.{OwnCopied, Measuring};
+ghost use Rattle.tables.specs.Measuring.{OwnCopied, saidTabled, Measuring};
 
 // Whether every start and every goal is a node.
 fn all_nodes(nodes: usize, moves: &[u16]) -> bool
@@ -59,9 +59,10 @@ fn copy_row(row: &[u16], moves: &[u16], offset: usize, base: usize, table: &mut 
     }
 }
 
-// Copies the distances from a node to the block's row of each carrier whose row begins at the node. In block
-// 0 a row begins at its carrier's start and is read at the starts, in block 1 it begins at the start and is
-// read at the goals, and in block 2 it begins at the goal and is read at the goals.
+// A row of distances from a node is copied to the table: in a block, to the row of each carrier whose row
+// begins at the node. In block 0 a row begins at its carrier's start and is read at the starts, in block 1 it
+// begins at the start and is read at the goals, and in block 2 it begins at the goal and is read at the
+// goals.
 fn copy_rows(row: &[u16], moves: &[u16], node: u16, block: usize, table: &mut [u16])
     requires { ⌜ (block < 3)
         × (moveCount (now moves) ≤ carrierLimit)
@@ -109,9 +110,9 @@ fn fill_node(
 }
 
 // Whether the node is one of the first `end` numbers of the moves.
-fn among(moves: &[u16], end: usize, node: u16) -> bool
+fn came_before(moves: &[u16], end: usize, node: u16) -> bool
     requires { ⌜ end ≤ length (now moves) ⌝ }
-    ensures { λ r. ⌜ Answers r (Among (now (moves .entry)) end node) ⌝ }
+    ensures { λ r. ⌜ Answers r (CameBefore (now (moves .entry)) end node) ⌝ }
 {
     let mut x: usize = 0;
     while x < end {
@@ -136,7 +137,7 @@ fn fill_all(nodes: usize, lanes: &[u16], closed: &[u16], moves: &[u16], table: &
     let mut x: usize = 0;
     while x < ends {
         let node = moves[x];
-        if among(moves, x, node) {
+        if came_before(moves, x, node) {
             x += 1;
         } else {
             fill_node(nodes, lanes, closed, moves, node, table);
@@ -220,8 +221,8 @@ fn copy_own(table: &[u16], carriers: usize, distances: &mut [u16])
     }
 }
 
-// What measuring answers: every carrier has a walk to its goal; or the lowest carrier number that has none; or
-// what is asked is not served.
+// What measuring answers: every carrier has a walk to its goal; or the lowest carrier number that has none;
+// or what is asked is not served.
 pub enum Tabled {
     All,
     Lost(Carrier),
@@ -243,7 +244,7 @@ pub fn measure(
         (now (moves .entry))
         (now (table .entry)) (now (table .exit))
         (now (distances .entry)) (now (distances .exit))
-        r ⌝ }
+        (saidTabled r) ⌝ }
 {
     let carriers = moves.len() / 2;
     let room = distances.len();

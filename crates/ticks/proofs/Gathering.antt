@@ -20,7 +20,7 @@ use Rattle.ticks.specs.Gathering.{HeldAt, GatherServed, Gathered, Gather
 use Rattle.rule.proofs.Carry.{smallest-same}
 use Rattle.rule.proofs.Held.{tick-same, pair-same, held-length, held-tick, held-pair}
 use Rattle.rule.proofs.Held.{earlier-tick, earlier-pair, later}
-use Rattle.ticks.proofs.Order.{entry-below, number-below}
+use Rattle.ticks.proofs.Order.{entry-below}
 
 module _ (table order ticks held₀ : List ℕ) (new : ℕ) where
   pub gathered-none : Gathered table order ticks held₀ held₀ new 0
@@ -79,18 +79,18 @@ pub gathering-length : (table order ticks : List ℕ) (q new : ℕ) (held held�
 gathering-length table order ticks q new held held′ true g = g .gathered .as-many
 gathering-length table order ticks q new held held′ false g = ap length (g .kept)
 
--- the places before that of a listed carrier are served, in a list with room for every carrier of a job
+-- the places of a served order up to q are served, in a list with room for every carrier of a job
 pub order-gathers : {table order : List ℕ} {timed : ℕ} →
     OrderServed table order timed →
     (q room : ℕ) {new : ℕ} →
-    q < length order →
-    new ≡ getD order q 0 →
+    q ≤ length order →
+    new < carrierLimit →
     7 * carrierLimit ≤ room →
     GatherServed table order timed q new room
 order-gathers s q room h e fits = record {
   whole-table = s .whole-table;
-  new-numbered = number-below s q h e;
-  within-order = omega arith;
+  new-numbered = e;
+  within-order = h;
   enough-room = omega (arith, s .few-places);
   numbered = λ p l. omega (arith, entry-below s p (omega arith), s .few-places);
   ticked = λ p l. omega (arith, entry-below s p (omega arith), s .few-places, s .enough-room);

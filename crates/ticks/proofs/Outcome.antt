@@ -12,7 +12,9 @@ use Rattle.hall.specs.Floor.{floor}
 use Rattle.hall.specs.Job.{Numbers, carriers, start, goal}
 use Rattle.hall.specs.Ticks.{own, costOf}
 use Rattle.hall.specs.Plan.{tablesIn, TablesOf, Plan}
-use Rattle.ticks.specs.Timing.{TicksServed, Given, TicksUntouched}
+use Rattle.ticks.specs.declared.Timed.{Timed}
+use Rattle.ticks.specs.declared.Timed.the-variants.{Cost, Unserved}
+use Rattle.ticks.specs.Timing.{TicksServed, Given, TicksUntouched, saidTimed, Timing}
 use Rattle.ticks.specs.Steps.{PlacedTo}
 use Rattle.ticks.proofs.Order.{entry-below}
 
@@ -46,3 +48,15 @@ given-plan j table ticks ticks′ cost e g distances reached = record {
   ticks = g .start-ticks;
   cost-is = rw e (g .cost-is);
 }
+
+-- ---- what an answer tells
+
+pub is-given : {table order ticks ticks′ : List ℕ} {dwell : ℕ} {r : Timed} {cost : ℕ} → r ≡ Cost cost →
+    Timing table order dwell ticks ticks′ (saidTimed r) → Given table order dwell ticks ticks′ cost
+is-given e a = rw e at a
+
+pub never-untimed : (table order : List ℕ) (dwell : ℕ) (ticks ticks′ : List ℕ) {r : Timed} →
+    TicksServed table order dwell (length ticks) → r ≡ Unserved →
+    Timing table order dwell ticks ticks′ (saidTimed r) → ⊥
+never-untimed table order dwell ticks ticks′ s e a =
+    let u : TicksUntouched table order dwell ticks ticks′ = rw e at a in u .unserved s

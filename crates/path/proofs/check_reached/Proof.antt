@@ -8,11 +8,11 @@ use Rattle.hall.specs.declared.Fault.the-variants.{Unreachable}
 use Rattle.hall.specs.Floor.{NoWalk, Network, networkOf, floor}
 use Rattle.hall.specs.Stages.{None, asked}
 use Rattle.hall.specs.Questions.{moveEnds}
-use Rattle.hall.proofs.Compose.{judged-stop, sound-none}
+use Rattle.hall.proofs.Compose.{judged-stop, sound-none, not-both}
 use Rattle.walk.specs.Row.{RowFilled}
 use Rattle.walk.proofs.WalkRow.{rowed-served}
 use Rattle.network.proofs.SoundMove.{MoveSound, move-sound}
-use Rattle.path.proofs.Reached.{not-both, walk-missing, walk-there}
+use Rattle.path.proofs.Reached.{walk-missing, walk-there}
 use Rattle.path.proofs.check_reached.Statement.{statement}
 use Rattle.path.proofs.check_reached.Tie as tie
 

@@ -10,7 +10,7 @@ use Rattle.tables.proofs.Measuring.{says-all, says-lost, served-measured}
 use Rattle.planner.specs.Planning.{Lent, lent}
 use Rattle.planner.specs.Receiving.{Received}
 use Rattle.planner.proofs.Receiving.{is-received, received-refuses}
-use Rattle.planner.proofs.Outcome.{is-given, never-untimed}
+use Rattle.ticks.proofs.Outcome.{is-given, never-untimed}
 use Rattle.planner.proofs.Ready.{measure-served, ready-lost, ready-served, ready-planned}
 use Rattle.planner.proofs.plan_moves.Statement.{statement}
 use Rattle.planner.proofs.plan_moves.Tie as tie

@@ -1,5 +1,5 @@
--- `recorded::placed_count` meets its contract: each test is one of the four of `RecordsShort`. There is no loop.
--- Assumes nothing.
+-- `recorded::placed_count` meets its contract: each test is one of the four of `RecordsShort`. There is no
+-- loop. Assumes nothing.
 use mathlib.Core.Path.{refl}
 use mathlib.Core.Logic.{inl, inr}
 use Rattle.recorded.proofs.ReadRecords.{all-placed}

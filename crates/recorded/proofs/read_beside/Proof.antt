@@ -1,5 +1,5 @@
--- `recorded::read_beside` meets its contract: too few records are refused before anything is read, and otherwise
--- the answer is that of reading into numbers. Assumes nothing.
+-- `recorded::read_beside` meets its contract: too few records are refused before anything is read, and
+-- otherwise the answer is that of reading into numbers. Assumes nothing.
 use mathlib.Core.Path.{refl}
 use native.Mathlib.Omega.{arith}
 use borrow.Author.Needs.{needs}

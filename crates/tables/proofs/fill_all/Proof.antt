@@ -33,8 +33,8 @@ mul-node c = search needs
 shared-slice-read-node : tie.Need-shared-slice-read-node Inv-loop μ-loop
 shared-slice-read-node c = search needs
 
-among-requires : tie.Need-among-requires Inv-loop μ-loop
-among-requires c κs = search needs
+came-before-requires : tie.Need-came-before-requires Inv-loop μ-loop
+came-before-requires c κs = search needs
 
 add-x : tie.Need-add-x Inv-loop μ-loop
 add-x c = search needs
@@ -45,7 +45,7 @@ loop-less c = search needs
 loop-again : tie.Need-loop-again Inv-loop μ-loop
 loop-again c =
     let loop = c .before .before .before .before in
-    let earlier = affirmed (c .before .among .result) (c .if1 .taken) (c .before .among .ensures) in
+    let earlier = affirmed (c .before .came-before .result) (c .if1 .taken) (c .before .came-before .ensures) in
     (omega arith, omega arith, filled-same _ _ _ (loop .loop .x) (loop .loop .inv .2) earlier)
 
 fill-node-requires : tie.Need-fill-node-requires Inv-loop μ-loop
@@ -90,7 +90,7 @@ fill-all-spec =
     loop-holds
     mul-node
     shared-slice-read-node
-    among-requires
+    came-before-requires
     add-x
     loop-less
     loop-again

@@ -54,7 +54,7 @@ smallest c =
     (lent-smallest (a .dwell) (a .table .now) (a .order .now) (a .ticks .now) _ (gather .last .1 .1 .1 .1 .1 .0)
     (new .result .0) q
     (served-gathered (a .table .now) (a .order .now) (a .ticks .now) q (new .result .0) _ _ (gather .result)
-    (order-gathers (start .pre .0) q _ (start .pre .1) (new .ensures) (omega arith)) (gather .ensures))
+    (order-gathers (start .pre .0) q _ (omega (arith, start .pre .1)) (number-below (start .pre .0) q (start .pre .1) (new .ensures)) (omega arith)) (gather .ensures))
     (fits after) (c .first-tick .ensures))
 
 early : (c : tie.After-first-tick) →

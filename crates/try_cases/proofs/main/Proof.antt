@@ -1,5 +1,5 @@
--- `try_cases::main` is safe and ends. The loop's invariant: the number is at most the last one, and the room has
--- its length. The measure is how many numbers are left. Assumes nothing.
+-- `try_cases::main` is safe and ends. The loop's invariant: the number is at most the last one, and the room
+-- has its length. The measure is how many numbers are left. Assumes nothing.
 use borrow.Author.Needs.{needs}
 use mathlib.Core.Path.{_≡_}
 use Prim.Native.Nat.{_≤_, _-_}

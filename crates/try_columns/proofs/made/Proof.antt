@@ -1,6 +1,6 @@
--- `try_columns::made` meets its contract. The loop's invariant, `Making`: of 80 records the first i are those of
--- their numbers. After the loop these are all, and the list is the one that is promised. The measure is how
--- many records are left to make. Assumes nothing.
+-- `try_columns::made` meets its contract. The loop's invariant, `Making`: of 80 records the first i are those
+-- of their numbers. After the loop these are all, and the list is the one that is promised. The measure is
+-- how many records are left to make. Assumes nothing.
 use borrow.Author.Needs.{needs}
 use mathlib.Core.Path.{_≡_, refl, _∙_}
 use mathlib.Core.List.{List}

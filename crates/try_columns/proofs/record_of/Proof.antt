@@ -1,4 +1,5 @@
--- `try_columns::record_of` meets its contract: each number is what the call that gives it ensures. Assumes nothing.
+-- `try_columns::record_of` meets its contract: each number is what the call that gives it ensures. Assumes
+-- nothing.
 use borrow.Author.Needs.{needs}
 use mathlib.Core.Path.{_≡_, ap, _∙_}
 use Rattle.records.specs.declared.Record.{Record}

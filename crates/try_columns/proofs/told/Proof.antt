@@ -1,5 +1,5 @@
--- `try_columns::told` meets its contract. The loop's invariant, `Telling`: to write the records from i on to the
--- list as it is gives what is promised. In front of the loop that is the promise itself, and after it no
+-- `try_columns::told` meets its contract. The loop's invariant, `Telling`: to write the records from i on to
+-- the list as it is gives what is promised. In front of the loop that is the promise itself, and after it no
 -- record is left. The measure is how many are left to write. Assumes nothing.
 use borrow.Author.Needs.{needs}
 use mathlib.Core.Path.{_≡_, refl, sym, _∙_}

@@ -1,6 +1,6 @@
 -- `hall::zero::zero_ticks` meets its contract. The invariant: the ticks so far are those that came, with the
--- first i zero. It is left at the end of a shorter list, which is then zero throughout. The measure is what is
--- left of the 64 places. Assumes nothing.
+-- first i zero. It is left at the end of a shorter list, which is then zero throughout. The measure is what
+-- is left of the 64 places. Assumes nothing.
 use mathlib.Core.Path.{_≡_, refl, sym, _∙_}
 use Prim.Native.Nat.{_+_, _-_, _≤_, _<_}
 use native.Mathlib.Omega.{arith}

@@ -1,4 +1,5 @@
--- `reader::sections::terms_of` meets its contract: each arm has the terms of its own section. Assumes nothing.
+-- `reader::sections::terms_of` meets its contract: each arm has the terms of its own section. Assumes
+-- nothing.
 use borrow.Author.Needs.{needs}
 use Rattle.reader.proofs.sections.terms_of.Statement.{statement}
 use Rattle.reader.proofs.sections.terms_of.Tie as tie

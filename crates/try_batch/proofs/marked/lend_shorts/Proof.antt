@@ -1,5 +1,5 @@
--- `try_batch::marked::lend_shorts` meets its contract: a front that is cut at the length is the same front. Assumes
--- nothing.
+-- `try_batch::marked::lend_shorts` meets its contract: a front that is cut at the length is the same front.
+-- Assumes nothing.
 use Prim.Native.Nat.{_-_}
 use native.Mathlib.Omega.{arith}
 use borrow.Author.Needs.{needs}

@@ -1,4 +1,5 @@
--- `try_batch::payload::byte_at` meets its contract: what lies past the end of a list reads as 0. Assumes nothing.
+-- `try_batch::payload::byte_at` meets its contract: what lies past the end of a list reads as 0. Assumes
+-- nothing.
 use mathlib.Core.Path.{refl, sym}
 use native.Mathlib.Omega.{arith}
 use lib.ListN.{List·getD-eq-default}

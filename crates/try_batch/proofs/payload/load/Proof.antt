@@ -1,5 +1,5 @@
--- `try_batch::payload::load` meets its contract. The loop's invariant: the first i numbers stand at the front of
--- the list, with what it held behind them. The measure is what is left of `n`. Assumes nothing.
+-- `try_batch::payload::load` meets its contract. The loop's invariant: the first i numbers stand at the front
+-- of the list, with what it held behind them. The measure is what is left of `n`. Assumes nothing.
 use Prim.Native.Nat.{_-_}
 use native.Mathlib.Omega.{arith}
 use borrow.Author.Needs.{needs}

@@ -1,5 +1,5 @@
--- `try_batch::payload::long_at` meets its contract: a number of the rest of a payload is a number of the payload.
--- Assumes nothing.
+-- `try_batch::payload::long_at` meets its contract: a number of the rest of a payload is a number of the
+-- payload. Assumes nothing.
 use borrow.Author.Needs.{needs}
 use Rattle.try_batch.proofs.Payloads.{long-of}
 use Rattle.try_batch.proofs.payload.long_at.Statement.{statement}

@@ -1,5 +1,5 @@
--- `try_batch::payload::rest` meets its contract: the part from a place on has no more to give than what is behind
--- that place, and past the end there is nothing. Assumes nothing.
+-- `try_batch::payload::rest` meets its contract: the part from a place on has no more to give than what is
+-- behind that place, and past the end there is nothing. Assumes nothing.
 use mathlib.Core.Path.{sym}
 use Prim.Native.Nat.{_-_}
 use native.Mathlib.Omega.{arith}

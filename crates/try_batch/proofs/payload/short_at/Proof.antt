@@ -1,5 +1,5 @@
--- `try_batch::payload::short_at` meets its contract: a byte of the rest of a payload is a byte of the payload.
--- Assumes nothing.
+-- `try_batch::payload::short_at` meets its contract: a byte of the rest of a payload is a byte of the
+-- payload. Assumes nothing.
 use borrow.Author.Needs.{needs}
 use Rattle.try_batch.proofs.Payloads.{short-of}
 use Rattle.try_batch.proofs.payload.short_at.Statement.{statement}

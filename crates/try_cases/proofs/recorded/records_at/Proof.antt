@@ -1,5 +1,5 @@
--- `try_cases::recorded::records_at` is safe and ends. The loop's invariant: `i` is at most 320, and the numbers
--- are as many as they were. The measure is what is left of 320. Assumes nothing.
+-- `try_cases::recorded::records_at` is safe and ends. The loop's invariant: `i` is at most 320, and the
+-- numbers are as many as they were. The measure is what is left of 320. Assumes nothing.
 use borrow.Author.Needs.{needs}
 use mathlib.Core.Path.{_≡_}
 use Prim.Native.Nat.{_≤_, _-_}

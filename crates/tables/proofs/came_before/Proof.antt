@@ -1,5 +1,5 @@
--- `tables::among` meets its contract. The invariant: no number before x is the node. The measure is what is
--- left of the numbers. Assumes nothing.
+-- `tables::came_before` meets its contract. The invariant: no number before x is the node. The measure is
+-- what is left of the numbers. Assumes nothing.
 use borrow.Author.Needs.{needs}
 use native.Mathlib.Omega.{arith}
 use mathlib.Core.Logic.{_≢_}
@@ -7,8 +7,8 @@ use Prim.Native.Nat.{ℕ, _-_, _≤_, _<_}
 use native.Mathlib.Nat.{not-suc-le-zero}
 use borrow.Author.Count.{below-more}
 use lib.ListN.{getD}
-use Rattle.tables.proofs.among.Statement.{statement}
-use Rattle.tables.proofs.among.Tie as tie
+use Rattle.tables.proofs.came_before.Statement.{statement}
+use Rattle.tables.proofs.came_before.Tie as tie
 
 abbrev Inv-loop : tie.InvT-loop
 Inv-loop moves end node x₀ x = (x ≤ end) × ((y : ℕ) → y < x → getD moves y 0 ≢ node)
@@ -44,8 +44,8 @@ loop-again c =
 returns-2 : tie.Need-returns-2 Inv-loop μ-loop
 returns-2 c = λ a. c .before .loop .inv .1 (a .place) (omega (arith, a .before)) (a .same)
 
-pub among-spec : {M : Type 1} → statement M
-among-spec =
+pub came-before-spec : {M : Type 1} → statement M
+came-before-spec =
     tie.close
     (tie.spec
     Inv-loop
