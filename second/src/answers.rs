@@ -5,6 +5,7 @@
 use crate::batch::Case;
 use crate::job::{Job, Refusal};
 use crate::lent::{self, Lent};
+use crate::lent_book;
 use crate::lent_plan;
 use crate::lent_read;
 use crate::lent_write;
@@ -51,7 +52,8 @@ fn judged(result: Result<(), Refusal>) -> Answer {
     either(result, |()| Answer::Passed)
 }
 
-/// All answers to one case: two for `n`, one for every other kind.
+/// All answers to one case: two for `n`, one for each call of `B`, and one for every
+/// other kind.
 pub fn answers_to(case: &Case) -> Vec<Answer> {
     let one = match case {
         Case::Plan { text } => answer_to_text(text),
@@ -101,6 +103,10 @@ pub fn answers_to(case: &Case) -> Vec<Answer> {
         }
         Case::WriteNumbers { out, job } => Answer::Left(lent_write::again(*out, 0, &job.job())),
         Case::WriteRecords { out, job } => Answer::Left(lent_write::again(*out, 0, &job.job())),
+        Case::Admit { each, again, asked } => {
+            let answers = lent_book::admissions(*each > 0, *again, asked);
+            return answers.into_iter().map(Answer::Left).collect();
+        }
     };
     vec![one]
 }

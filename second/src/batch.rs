@@ -5,6 +5,7 @@
 // places of a table are lent is in the case; least_cases.rs makes those that
 // lend the least.
 
+use crate::book::Admissions;
 use crate::job::{Hall, Move};
 use crate::lent_jobs::{Listed, Recorded};
 
@@ -51,10 +52,14 @@ pub enum Case {
     WriteNumbers { out: u16, job: Listed },
     /// `y`: write a job of records into lent bytes.
     WriteRecords { out: u16, job: Recorded },
+    /// `B`: admit carriers to a floor book, call by call. The book is told after
+    /// the last call, or after each if the first number is not 0; the second says
+    /// how many times more each call is made, on a copy of the book.
+    Admit { each: u16, again: u16, asked: Box<Admissions> },
 }
 
 /// All kinds, in the order in which the histogram shows them.
-pub const KINDS: &[u8] = b"PHhQqCnWrmaptowjcxy";
+pub const KINDS: &[u8] = b"PHhQqCnWrmaptowjcxyB";
 
 impl Case {
     pub fn kind(&self) -> u8 {
@@ -78,6 +83,7 @@ impl Case {
             Case::ChooseNumbers { .. } => b'c',
             Case::WriteNumbers { .. } => b'x',
             Case::WriteRecords { .. } => b'y',
+            Case::Admit { .. } => b'B',
         }
     }
 }

@@ -4,9 +4,12 @@
 // guessed at.
 
 use crate::batch::Case;
+use crate::book::Admissions;
 use crate::job::{Hall, Move};
 use crate::lent_jobs::{Listed, Recorded};
-use crate::payload::{put_list, put_listed, put_long, put_recorded, put_shorts, Rest};
+use crate::payload::{
+    put_admissions, put_list, put_listed, put_long, put_recorded, put_shorts, Rest,
+};
 
 /// The parts of a payload. A number or a list that the kind has no use for is 0
 /// or empty. The body is a text, or the bytes of a job from numbers.
@@ -52,6 +55,13 @@ fn listed(job: &Listed) -> Vec<u8> {
 fn recorded(job: &Recorded) -> Vec<u8> {
     let mut out = Vec::new();
     put_recorded(&mut out, job);
+    out
+}
+
+/// A network, and behind it a book and calls.
+fn admissions(asked: &Admissions) -> Vec<u8> {
+    let mut out = network(&asked.hall);
+    put_admissions(&mut out, asked);
     out
 }
 
@@ -119,6 +129,9 @@ impl Case {
                 Parts::new([0, *carrier, 0, count(job)], recorded(job)).with(list, &[])
             }
             Case::WriteRecords { out, job } => Parts::new([*out, 0, 0, count(job)], recorded(job)),
+            Case::Admit { each, again, asked } => {
+                Parts::new([asked.calls.len() as u16, *each, *again, 0], admissions(asked))
+            }
         }
     }
 
@@ -159,6 +172,11 @@ impl Case {
             b'o' => Case::PathOfRecords { path: a0, carrier, job: body.recorded(a3)? },
             b'j' => Case::JudgeRecords { carrier, list: own, job: body.recorded(a3)? },
             b'y' => Case::WriteRecords { out: a0, job: body.recorded(a3)? },
+            b'B' => {
+                let hall = body.listed()?.hall;
+                let asked = Box::new(body.admissions(a0, hall)?);
+                Case::Admit { each: a1, again: a2, asked }
+            }
             other => return Err(format!("no kind has the byte {}", other)),
         };
         if case.payload() == payload {

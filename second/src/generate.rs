@@ -1,10 +1,11 @@
 // A batch: all small networks, also with closed nodes or a dwell, the systematic
 // faults, carriers that wait on their goals, trains, the limits, lent tables of
-// all lengths, as many random cases as asked for, and jobs that are written as
-// texts. Random cases take turns through every kind and every damage, so that
-// even a short run has some of each.
+// all lengths, as many random cases as asked for, jobs that are written as texts,
+// and floor books. Random cases take turns through every kind and every damage, so
+// that even a short run has some of each.
 
 use crate::batch::Case;
+use crate::book_cases::book_cases;
 use crate::closed_cases::closed_cases;
 use crate::damage_bytes::BYTE_DAMAGES;
 use crate::damage_entries::entry_damages;
@@ -232,5 +233,6 @@ pub fn batch(seed: u64, count: usize) -> Vec<Case> {
     cases.extend(lent_cases(&mut dice));
     cases.extend(random_cases(&mut dice, count));
     cases.extend(write_cases(&mut dice, count));
+    cases.extend(book_cases(&mut dice, count));
     cases
 }

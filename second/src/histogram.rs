@@ -1,11 +1,13 @@
 // What a batch holds: how often each kind of case is accepted and how often
 // it meets each refusal, so that a reader sees at a glance what is missing.
 // Refusal 9 comes only where a table is lent shorter than its least length, and
-// the column of 6, which is not in use, has zeros alone. What was chosen,
-// planned and written is told in a few lines below the table.
+// the column of 6, which is not in use, has zeros alone. Of a floor book each call
+// counts by itself. What was chosen, planned, written and admitted is told in a few
+// lines below the table.
 
 use crate::answers::answers_to;
 use crate::batch::{Case, KINDS};
+use crate::histogram_book::Admitted;
 use crate::histogram_write::Written;
 use crate::job::{Job, Refusal, MOST_CARRIERS, MOST_DWELL};
 use crate::paths::{choose, Choice};
@@ -18,7 +20,7 @@ const LARGE: usize = 8000;
 struct Row {
     cases: usize,
     accepted: usize,
-    refused: [usize; 14],
+    refused: [usize; 18],
 }
 
 #[derive(Default)]
@@ -138,7 +140,7 @@ impl Extra {
     }
 
     fn note_refusal(&mut self, case: &Case, refusal: Refusal) {
-        if refusal.number == 2 && b"nptowjxy".contains(&case.kind()) {
+        if refusal.number == 2 && b"nptowjxyB".contains(&case.kind()) {
             self.places[refusal.at] += 1;
         }
     }
@@ -154,8 +156,10 @@ pub fn histogram(cases: &[Case]) -> String {
     let mut extra = Extra::default();
     let mut shared = Shared::default();
     let mut written = Written::default();
+    let mut admitted = Admitted::default();
     for case in cases {
         extra.note(case);
+        admitted.note(case);
         let place = KINDS.iter().position(|&kind| kind == case.kind()).expect("a known kind");
         rows[place].cases += 1;
         for answer in answers_to(case) {
@@ -172,20 +176,20 @@ pub fn histogram(cases: &[Case]) -> String {
             }
         }
     }
-    printed(&rows, &extra, &shared, &written)
+    let below = [shared.printed(), written.printed(), admitted.printed()].concat();
+    printed(&rows, &extra, &below)
 }
 
-fn printed(rows: &[Row], extra: &Extra, shared: &Shared, written: &Written) -> String {
+fn printed(rows: &[Row], extra: &Extra, below: &str) -> String {
     let mut out = "kind   cases accepted".to_string();
-    (1..=13).for_each(|number| out += &format!("{:>7}", number));
+    (1..=17).for_each(|number| out += &format!("{:>7}", number));
     for (kind, row) in KINDS.iter().zip(rows) {
         out += &format!("\n{:<4} {:>7} {:>8}", *kind as char, row.cases, row.accepted);
         row.refused[1..].iter().for_each(|count| out += &format!("{:>7}", count));
     }
     out += &format!("\nrefusal 2 from numbers, by place: {:?}", extra.places);
     out += &format!("\nchoices: {} own, {} spare, {} none", extra.own, extra.spare, extra.neither);
-    out += &shared.printed();
-    out += &written.printed();
+    out += below;
     out + &format!(
         "\nlarge cases (over 8,000 bytes): {}, plans of 64 carriers among them: {}\
          \nbytes: {} in all, {} in the longest payload\n",

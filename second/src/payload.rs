@@ -1,8 +1,9 @@
 // What payloads are made of: numbers of two or four bytes, lowest byte first,
-// lists, and jobs from numbers. Each has a function that puts it and one that
-// takes it, and a payload that ends within a part is an error.
+// lists, jobs from numbers, and floor books with calls. Each has a function that
+// puts it and one that takes it, and a payload that ends within a part is an error.
 
-use crate::job::Hall;
+use crate::book::{Admissions, Book, Call, Slot};
+use crate::job::{Hall, Move};
 use crate::lent::{Columns, RECORD_PLACES};
 use crate::lent_jobs::{Listed, Recorded};
 
@@ -35,6 +36,20 @@ pub fn put_recorded(out: &mut Vec<u8>, job: &Recorded) {
     put_listed(out, &Listed { hall, moves: Vec::new(), order, dwell });
     for number in Columns::of(&job.records).0.concat() {
         put_long(out, number);
+    }
+}
+
+/// A book and the calls to it; their network stands before them.
+pub fn put_admissions(out: &mut Vec<u8>, asked: &Admissions) {
+    put_long(out, asked.book.clock);
+    put_long(out, asked.book.dwell);
+    for slot in &asked.book.slots {
+        put_shorts(out, &[slot.start, slot.goal, slot.distance]);
+        put_long(out, slot.tick);
+    }
+    for call in &asked.calls {
+        put_long(out, call.now);
+        put_shorts(out, &[call.asked.start, call.asked.goal]);
     }
 }
 
@@ -85,6 +100,31 @@ impl<'a> Rest<'a> {
         }
         let records = Columns(columns).records(count.into());
         Ok(Recorded { hall, records, order, dwell })
+    }
+
+    fn book(&mut self) -> Result<Book, String> {
+        let clock = self.long()?;
+        let mut book = Book { clock, ..Book::empty(self.long()?) };
+        for slot in book.slots.iter_mut() {
+            let (start, goal, distance) = (self.short()?, self.short()?, self.short()?);
+            *slot = Slot { start, goal, distance, tick: self.long()? };
+        }
+        Ok(book)
+    }
+
+    fn call(&mut self) -> Result<Call, String> {
+        let now = self.long()?;
+        Ok(Call { now, asked: Move { start: self.short()?, goal: self.short()? } })
+    }
+
+    /// A book and so many calls, one at least.
+    pub fn admissions(&mut self, count: u16, hall: Hall) -> Result<Admissions, String> {
+        if count == 0 {
+            return Err("a book without a call".to_string());
+        }
+        let book = self.book()?;
+        let calls: Result<Vec<Call>, String> = (0..count).map(|_| self.call()).collect();
+        Ok(Admissions { hall, book, calls: calls? })
     }
 
     /// The job text is whatever the payload still holds.

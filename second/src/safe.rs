@@ -4,11 +4,13 @@
 // carriers that wait on their goals for the dwell; where a pair has too many, it
 // counts as skipped and is judged from distances alone. No path may stand on a
 // closed node. The limits of ticks, the bound by the last ticks before, and what
-// holds of carriers that share an end are checked in halls of any size.
+// holds of carriers that share an end are checked in halls of any size. The days of
+// floor books are checked in safe_book.rs.
 
 use crate::answers::answer_to_text;
 use crate::batch::Case;
 use crate::job::Job;
+use crate::safe_book::Days;
 use crate::safe_print::{check_print, read_print, Printed};
 use crate::safe_ticks::{check_bounds, check_shared_ends, check_ticks, Sharing};
 use crate::shortest::{
@@ -18,9 +20,9 @@ use crate::shortest::{
 use crate::text;
 
 /// Larger halls are left out: the triple loop over nodes would take long.
-const SMALL_HALL: u32 = 64;
+pub const SMALL_HALL: u32 = 64;
 /// A pair with more path pairs than this is skipped.
-const MOST_PATH_PAIRS: u64 = 2_000;
+pub const MOST_PATH_PAIRS: u64 = 2_000;
 
 #[derive(Default)]
 pub struct Tally {
@@ -35,6 +37,7 @@ pub struct Tally {
     large: u64,
     tried: u64,
     skipped: u64,
+    days: Days,
     pub faults: u64,
 }
 
@@ -43,7 +46,7 @@ impl Tally {
         format!(
             "safe: {} jobs, {} of them with closed nodes, {} with a dwell; {} pairs of carriers, \
              {} path pairs tried, {} skipped; in {} larger jobs bounds and shared ends alone; {} \
-             pairs share an end, {} jobs have one start; {} faults\n",
+             pairs share an end, {} jobs have one start\n{}safe: {} faults\n",
             self.jobs,
             self.closed,
             self.dwelling,
@@ -53,6 +56,7 @@ impl Tally {
             self.large,
             self.sharing.pairs,
             self.sharing.rows,
+            self.days.printed(),
             self.faults
         )
     }
@@ -64,7 +68,7 @@ impl Tally {
 }
 
 /// How many choices of paths were tried, and whether some meets or crosses.
-fn try_all(dwell: i64, one: (&[Vec<usize>], i64), other: (&[Vec<usize>], i64)) -> (u64, bool) {
+pub fn try_all(dwell: i64, one: (&[Vec<usize>], i64), other: (&[Vec<usize>], i64)) -> (u64, bool) {
     let (mut tried, mut collides) = (0, false);
     for path in one.0 {
         for rival in other.0 {
@@ -146,12 +150,15 @@ fn check_text(tally: &mut Tally, number: usize, source: &[u8]) {
     }
 }
 
-/// Checks all accepted `P` cases.
+/// Checks all accepted `P` cases and all days of floor books.
 pub fn check(cases: &[Case]) -> Tally {
     let mut tally = Tally::default();
     for (number, case) in cases.iter().enumerate() {
         if let Case::Plan { text } = case {
             check_text(&mut tally, number, text);
+        }
+        if let Err(what) = tally.days.check(case) {
+            tally.fault(number, what);
         }
     }
     tally

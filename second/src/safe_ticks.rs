@@ -19,7 +19,12 @@ pub struct Sharing {
 /// forbidden. A dwell moves both ends outwards, and a stretch that was empty may
 /// become one of some length. Without a dwell an end of the wrong parity drops
 /// out of the stretch at gap 0.
-fn forbidden(table: &AllDistances, job: &Job, earlier: usize, later: usize) -> Option<(i64, i64)> {
+pub fn forbidden(
+    table: &AllDistances,
+    job: &Job,
+    earlier: usize,
+    later: usize,
+) -> Option<(i64, i64)> {
     let (first, second) = (job.moves[earlier], job.moves[later]);
     let distance = |from: u16, to: u16| table[usize::from(from)][usize::from(to)];
     let between_starts = distance(first.start, second.start)?;

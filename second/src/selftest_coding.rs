@@ -3,6 +3,7 @@
 
 use crate::answers::printed_to;
 use crate::batch::{Case, KINDS};
+use crate::book_random::random_books;
 use crate::coding::cases_of;
 use crate::dice::Dice;
 use crate::generate::random_cases;
@@ -71,6 +72,7 @@ fn there_and_back(checks: &mut Checks) {
     let mut cases = random_cases(&mut dice, 640);
     cases.push(as_text(&page::printed_job()));
     cases.extend(every_question(&mut dice, &page::printed_job()));
+    cases.extend(random_books(&mut dice, 40));
     let has = |kind: &&u8| cases.iter().any(|case| case.kind() == **kind);
     checks.same("every kind", KINDS.iter().filter(has).count(), KINDS.len());
     let mut file = Vec::new();
@@ -85,7 +87,8 @@ fn there_and_back(checks: &mut Checks) {
 /// A number, a list or bytes too many, and payloads that end early.
 fn broken(checks: &mut Checks) {
     let mut dice = Dice::new(9);
-    let whole = every_question(&mut dice, &page::printed_job());
+    let mut whole = every_question(&mut dice, &page::printed_job());
+    whole.extend(random_books(&mut dice, 3));
     for case in &whole {
         let (kind, payload) = (case.kind(), case.payload());
         let is_read = |payload: &[u8]| cases_of(&file_of(kind, payload)).is_ok();

@@ -6,7 +6,7 @@ use native.Mathlib.Omega.{arith}
 use Prim.Native.Nat.{ℕ}
 use Rattle.hall.specs.Rule.{Answers}
 
-true-not-false : true ≡ false → ⊥
+pub true-not-false : true ≡ false → ⊥
 true-not-false e = let k : _≡_ {A = ℕ} 1 0 = cc in omega arith
 
 pub affirmed : (b : Bool) {A : Type 0} → b ≡ true → Answers b A → A

@@ -15,6 +15,7 @@ use Rattle.hall.specs.declared.Fault.{Fault}
 use Rattle.hall.specs.declared.Fault.the-variants.{Malformed, BadCount, BadLane, NoNode, SameEnds}
 use Rattle.hall.specs.declared.Fault.the-variants.{BadOrder, Unreachable, ShortTable, NoCarrier}
 use Rattle.hall.specs.declared.Fault.the-variants.{NotShortest, BadClosed, ClosedEnd}
+use Rattle.hall.specs.declared.Fault.the-variants.{BadClock, NoSlot, BadBook, StaleSlot}
 use Rattle.hall.specs.declared.Refusal.{Refusal}
 use Rattle.hall.specs.Numbers.{numberOf}
 use Rattle.hall.specs.Said.{Said, accepted, refused, saidRefusal}
@@ -37,6 +38,10 @@ listed =
     ∷ NotShortest
     ∷ BadClosed
     ∷ ClosedEnd
+    ∷ BadClock
+    ∷ NoSlot
+    ∷ BadBook
+    ∷ StaleSlot
     ∷ []
 
 abbrev faultOf : ℕ → Fault
@@ -55,6 +60,10 @@ back NoCarrier = refl
 back NotShortest = refl
 back BadClosed = refl
 back ClosedEnd = refl
+back BadClock = refl
+back NoSlot = refl
+back BadBook = refl
+back StaleSlot = refl
 
 pub number-one-fault : (f g : Fault) → numberOf f ≡ numberOf g → f ≡ g
 number-one-fault f g e = sym (back f) ∙ ap faultOf e ∙ back g

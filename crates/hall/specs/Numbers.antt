@@ -1,4 +1,4 @@
--- The number of each fault (rules 8.1 to 8.13). No fault has 6, which is not in use (rule 8.6; `six-unused`,
+-- The number of each fault (rules 8.1 to 8.17). No fault has 6, which is not in use (rule 8.6; `six-unused`,
 -- proofs/Numbers.antt). Stages, answers and promises speak of the numbers; nothing in the definitions goes
 -- through the faults one by one but this.
 --     numberOf    the number under which a fault is listed
@@ -7,6 +7,7 @@ use Rattle.hall.specs.declared.Fault.{Fault}
 use Rattle.hall.specs.declared.Fault.the-variants.{Malformed, BadCount, BadLane, NoNode, SameEnds}
 use Rattle.hall.specs.declared.Fault.the-variants.{BadOrder, Unreachable, ShortTable, NoCarrier}
 use Rattle.hall.specs.declared.Fault.the-variants.{NotShortest, BadClosed, ClosedEnd}
+use Rattle.hall.specs.declared.Fault.the-variants.{BadClock, NoSlot, BadBook, StaleSlot}
 
 abbrev pub numberOf : Fault → ℕ
 numberOf Malformed = 1
@@ -21,3 +22,7 @@ numberOf NoCarrier = 10
 numberOf NotShortest = 11
 numberOf BadClosed = 12
 numberOf ClosedEnd = 13
+numberOf BadClock = 14
+numberOf NoSlot = 15
+numberOf BadBook = 16
+numberOf StaleSlot = 17

@@ -14,7 +14,8 @@
 --     None q           nothing of q holds: no stage has anything (`NoStage`)
 --     once n i P       the number n at the place i alone, if P
 --     asked f i P      the same of a fault: a count or the dwell (2), the walk of a single move (8), a short
---                      table (9), a carrier named (10), a list put forward (11)
+--                      table (9), a carrier named (10), a list put forward (11), a book and its clock (14 to
+--                      16)
 --     only-at i s      the checks of s at the place i alone, in turn: those of a single move
 --     at-each n s      those of s at each place below n: an entry's place is its number in its section, from
 --                      0

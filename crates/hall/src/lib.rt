@@ -105,6 +105,10 @@ pub enum Fault {
     NotShortest,
     BadClosed,
     ClosedEnd,
+    BadClock,
+    NoSlot,
+    BadBook,
+    StaleSlot,
 }
 
 impl Fault {
@@ -125,6 +129,10 @@ impl Fault {
             Fault::NotShortest => 11,
             Fault::BadClosed => 12,
             Fault::ClosedEnd => 13,
+            Fault::BadClock => 14,
+            Fault::NoSlot => 15,
+            Fault::BadBook => 16,
+            Fault::StaleSlot => 17,
         }
     }
 }

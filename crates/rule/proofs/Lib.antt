@@ -7,4 +7,5 @@ pub mod Work
 pub mod Carry
 pub mod Held
 pub mod Bound
+pub mod Near
 pub mod Unique

@@ -1,6 +1,7 @@
 // Answers the cases of a batch on standard input, many in one process, so that the library can be compared
-// with the second planner. The kinds with records are here, all others in `try_answers`. The answers are the
-// library's; this program only takes the cases apart and prints.
+// with the second planner. The kinds with records and the one with a floor book are here, all others in
+// `try_answers`. The answers are the library's; this program only takes the cases apart and prints.
+mod booked;
 mod recorded;
 
 use try_answers::answer;
@@ -12,6 +13,7 @@ use try_batch::payload_room;
 
 fn answer_case(kind: u8, s: &[u8]) {
     match kind {
+        b'B' => booked::admit(s, body(s)),
         b'r' => recorded::read(s, body(s)),
         b'p' | b'o' | b'j' | b'y' => recorded::ask(kind, s, body(s)),
         _ => answer(kind, s),

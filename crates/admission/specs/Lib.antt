@@ -1,0 +1,6 @@
+-- One admission to the floor book: what is refused, in which order, and what is answered and left. Steps is
+-- what the functions promise one another.
+pub mod Refusals
+pub mod Questions
+pub mod Admission
+pub mod Steps

@@ -1,0 +1,2 @@
+-- A day of admissions, and what is owed to it.
+pub mod Day

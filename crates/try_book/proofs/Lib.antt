@@ -1,0 +1,2 @@
+-- That one outcome fits the promise (Unique).
+pub mod Unique
