@@ -6,17 +6,17 @@
 --     pair-once        two carriers have one pair of distances
 --     true-smallest    the tick by the rows is the one that an admission gets
 --     tick-fits        and it has 32 bits
-use mathlib.Core.Path.{_≡_, refl, sym, _∙_, ap, subst}
+use mathlib.Core.Path.{_≡_, refl, sym, ap, subst}
 use mathlib.Core.Logic.{_⊎_, inl, inr, _≢_}
-use mathlib.Core.List.{List, [], _∷_, _++_}
-use Prim.Native.Nat.{ℕ, suc, _+_, _≤_, _<_}
+use mathlib.Core.List.{List}
+use Prim.Native.Nat.{ℕ, _+_, _≤_, _<_}
 use native.Mathlib.Decide.{ℕ-discrete, decLt}
 use native.Mathlib.Omega.{arith}
 use lib.ListN.{length, getD, set}
 use lib.IntN.{pos, _-ℤ_}
 use Rattle.hall.specs.declared.Refusal.{Refusal}
-use Rattle.hall.specs.Limits.{nodeLimit, distanceLimit, noWalkMark}
-use Rattle.hall.specs.Floor.{Floor, Dist, NoWalk, DistanceIs, Network, Open, floor}
+use Rattle.hall.specs.Limits.{noWalkMark}
+use Rattle.hall.specs.Floor.{Floor, Dist, NoWalk, Network, floor}
 use Rattle.hall.specs.Rule.{Pair, Permitted}
 use Rattle.hall.specs.Ticks.{SmallestFrom, PermittedBy}
 use Rattle.hall.specs.Plan.{DistancesOf}
@@ -25,21 +25,21 @@ use Rattle.hall.specs.Stages.{None, First}
 use Rattle.hall.specs.Said.{accepted}
 use Rattle.hall.proofs.Walks.{begins-on-node, ends-on-node, dist-unique, distance-unique}
 use Rattle.hall.proofs.Walks.{distance-symmetric, true-distance, lanes-symmetric, marked-none}
-use Rattle.hall.proofs.Compose.{none-at-all, none-append, first-before, first-after}
+use Rattle.hall.proofs.Compose.{none-at-all, none-append, first-after}
 use Rattle.hall.proofs.Places.{asked-here, asked-clear, none-each}
 use Rattle.hall.proofs.Decide.{joined-or-not}
 use Rattle.rule.proofs.Bound.{first-tick-bound}
 use Rattle.slots.specs.declared.Slot.{Slot}
 use Rattle.slots.specs.declared.Book.{Book}
-use Rattle.admission.specs.declared.Answer.the-variants.{Starts, Refused}
+use Rattle.admission.specs.declared.Answer.the-variants.{Refused}
 use Rattle.admission.specs.declared.Stepped.{Stepped}
-use Rattle.slots.specs.Record.{slotCount, free, isFree, slotAt, Held, Standing, lastTick, forgetting}
-use Rattle.slots.specs.Record.{LowestFree, AsFree, found, none-free, bookWith}
-use Rattle.slots.specs.Refusals.{BadSlot, far-start, far-goal, far-distance, late-start, SomeBadSlot}
-use Rattle.slots.specs.Refusals.{Damaged, late-clock, long-dwell, bad-slot, OffTime}
+use Rattle.slots.specs.Record.{slotCount, free, slotAt, Held, forgetting}
+use Rattle.slots.specs.Record.{LowestFree, bookWith}
+use Rattle.slots.specs.Refusals.{BadSlot, far-start, far-goal, far-distance, late-start}
+use Rattle.slots.specs.Refusals.{Damaged, long-dwell, bad-slot}
 use Rattle.admission.specs.Refusals.{Stale, other-distance, Full}
-use Rattle.admission.specs.Questions.{staleChecks, fullBook, callQuestion, admissionQuestion}
-use Rattle.admission.specs.Admission.{PermitsOne, PermittedHeld, carrierOf, Admitted, Admission}
+use Rattle.admission.specs.Questions.{staleChecks, callQuestion, admissionQuestion}
+use Rattle.admission.specs.Admission.{PermitsOne, PermittedHeld, carrierOf, Admission}
 use Rattle.admission.specs.Admission.{saidAnswer}
 use Rattle.admission.specs.Steps.{startsFor, pairFor, OnRows, TickFor, RowsFrom}
 use Rattle.slots.proofs.Slots.{is-free-dec, free-test, taken-test, forgetting-length, kept-or-free, still-held, held-still}

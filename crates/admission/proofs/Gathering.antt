@@ -3,13 +3,13 @@
 -- pairs of all slots permit. Assumes nothing.
 --     heldRoom      room for 64 carriers, seven numbers each
 --     GatheredTo    the first n places hold the first n slots
-use mathlib.Core.Path.{_≡_, refl, _∙_, subst}
+use mathlib.Core.Path.{_≡_, _∙_, subst}
 use mathlib.Core.List.{List}
 use Prim.Native.Nat.{ℕ, _+_, _*_, _/_, _≤_, _<_}
 use native.Mathlib.Nat.{not-suc-le-zero}
 use native.Mathlib.Decide.{decLt}
 use native.Mathlib.Omega.{arith}
-use lib.ListN.{length, getD, replicate}
+use lib.ListN.{length}
 use Rattle.hall.specs.Rule.{Pair}
 use Rattle.hall.specs.Ticks.{SmallestFrom, PermittedBy}
 use Rattle.rule.specs.Held.{heldTick, heldPair, heldWith}

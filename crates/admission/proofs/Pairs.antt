@@ -5,13 +5,13 @@
 --     tick-near      an accepted start tick is at most 163,648 ticks after now
 --     tick-bound     and at most one tick after the latest last tick held, or now, whichever is later
 --     alone-now      and now where nobody is held
-use mathlib.Core.Path.{_≡_, refl, sym, _∙_, subst}
-use mathlib.Core.Logic.{_⊎_, inl, inr, _≢_}
+use mathlib.Core.Path.{_≡_, refl}
+use mathlib.Core.Logic.{_≢_}
 use mathlib.Core.List.{List}
-use Prim.Native.Nat.{ℕ, _+_, _*_, _≤_, _<_, max}
+use Prim.Native.Nat.{ℕ, _+_, _≤_, _<_, max}
 use native.Mathlib.Decide.{decLt}
 use native.Mathlib.Omega.{arith}
-use lib.ListN.{length, getD}
+use lib.ListN.{length}
 use lib.IntN.{pos, _-ℤ_}
 use Rattle.hall.specs.Limits.{nodeLimit, noWalkMark}
 use Rattle.hall.specs.Floor.{Dist, Network, floor}
@@ -23,7 +23,7 @@ use Rattle.hall.proofs.Pigeon.{dist-below}
 use Rattle.hall.proofs.Lowest.{dec-and, dec-not}
 use Rattle.slots.specs.declared.Slot.{Slot}
 use Rattle.slots.specs.declared.Book.{Book}
-use Rattle.slots.specs.Record.{slotCount, free, slotAt, Held, goalTick, lastTick, forgetting}
+use Rattle.slots.specs.Record.{slotCount, free, slotAt, Held, lastTick, forgetting}
 use Rattle.admission.specs.Admission.{PermitsOne, PermittedHeld}
 use Rattle.slots.proofs.Slots.{is-free-dec, forgetting-length}
 use Rattle.admission.proofs.SoundCall.{book-sound, call-tells}

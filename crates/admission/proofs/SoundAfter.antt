@@ -2,36 +2,27 @@
 -- tick is at most 163,648 ticks after now, so below 4,000,200,000, and whoever is held beside it was sound
 -- before. Assumes nothing.
 --     admitted-sound   the book that is left is not damaged (rule 8.16)
-use mathlib.Core.Path.{_≡_, refl, sym, _∙_, subst}
-use mathlib.Core.Logic.{_⊎_, inl, inr, _≢_}
-use mathlib.Core.List.{List, [], _∷_}
-use Prim.Native.Nat.{ℕ, _+_, _≤_, _<_}
-use native.Mathlib.Nat.{le-refl}
-use native.Mathlib.Decide.{decLt}
+use mathlib.Core.Path.{_≡_, refl, _∙_}
+use mathlib.Core.Logic.{_⊎_, inl, inr}
+use mathlib.Core.List.{List}
+use Prim.Native.Nat.{ℕ, _≤_}
 use native.Mathlib.Omega.{arith}
 use lib.ListN.{length, set}
-use Rattle.hall.specs.Limits.{nodeLimit}
-use Rattle.hall.specs.Floor.{Dist, Network, floor}
-use Rattle.hall.specs.Stages.{None, only-at}
-use Rattle.hall.specs.Questions.{ends, networkQuestion}
+use Rattle.hall.specs.Floor.{Network}
+use Rattle.hall.specs.Questions.{ends}
 use Rattle.hall.specs.Said.{accepted}
-use Rattle.hall.proofs.Compose.{none-at-all, none-split}
-use Rattle.hall.proofs.Places.{asked-clear, loop-ends}
 use Rattle.slots.specs.declared.Slot.{Slot}
 use Rattle.slots.specs.declared.Book.{Book}
 use Rattle.admission.specs.declared.Entry.{Entry}
-use Rattle.slots.specs.Record.{slotCount, slotAt, Held, Standing, forgetting, bookWith}
-use Rattle.slots.specs.Refusals.{clockLimit, BadSlot, far-start, far-goal, same-ends, no-distance}
+use Rattle.slots.specs.Record.{slotCount, slotAt, Held, forgetting, bookWith}
+use Rattle.slots.specs.Refusals.{BadSlot, far-start, far-goal, same-ends, no-distance}
 use Rattle.slots.specs.Refusals.{far-distance, late-start, SomeBadSlot, Damaged, late-clock, long-dwell}
-use Rattle.slots.specs.Refusals.{bad-slot, OffTime}
-use Rattle.admission.specs.Refusals.{Stale}
-use Rattle.admission.specs.Questions.{staleChecks, staleSlots}
+use Rattle.slots.specs.Refusals.{bad-slot}
 use Rattle.admission.specs.Admission.{carrierOf, Admission}
 use Rattle.slots.proofs.Slots.{forgetting-length, still-held, new-or-held}
-use Rattle.admission.proofs.StaleSlots.{true-fresh}
 use Rattle.network.proofs.SoundMove.{MoveSound}
 use Rattle.admission.proofs.SoundCall.{book-sound, not-beyond, call-tells}
-use Rattle.admission.proofs.Admitting.{true-held, dwell-small}
+use Rattle.admission.proofs.Admitting.{dwell-small}
 use Rattle.admission.proofs.Took.{apart-one, Took, took}
 use Rattle.admission.proofs.Pairs.{distance-few, tick-near}
 

@@ -7,9 +7,7 @@
 --     move-clear, none-stale    nothing of the network and the move holds, and nothing of 17
 use mathlib.Core.Logic.{inl, inr}
 use mathlib.Core.List.{[], _∷_, _++_}
-use Prim.Native.Nat.{ℕ, suc, _≤_, _<_}
-use native.Mathlib.Decide.{decLt}
-use native.Mathlib.Omega.{arith}
+use Prim.Native.Nat.{ℕ, _≤_}
 use Rattle.hall.specs.declared.Fault.the-variants.{Unreachable}
 use Rattle.hall.specs.Floor.{NoWalk, Network, floor}
 use Rattle.hall.specs.Stages.{None, asked}

@@ -10,17 +10,17 @@
 --                                              judged
 --     sieved-first, sieved-none                after the last slot the sieve has the first, or there is none
 use mathlib.Core.Path.{_≡_, refl, sym, _∙_, subst}
-use mathlib.Core.Logic.{_↔_, _≢_}
+use mathlib.Core.Logic.{_↔_}
 use mathlib.Core.Bool.{Bool, true, false}
 use mathlib.Core.List.{List, [], _∷_}
 use Prim.Native.Nat.{ℕ, _+_, _≤_, _<_}
 use native.Mathlib.Nat.{not-suc-le-zero}
 use native.Mathlib.Decide.{decLt}
 use native.Mathlib.Omega.{arith}
-use lib.ListN.{length, getD}
+use lib.ListN.{length}
 use borrow.Author.Count.{below-more}
 use Rattle.hall.specs.Limits.{nodeLimit, distanceLimit}
-use Rattle.hall.specs.Floor.{Dist, DistanceIs, no-walk, distance, Network, Open, floor}
+use Rattle.hall.specs.Floor.{Dist, DistanceIs, no-walk, distance, Network, floor}
 use Rattle.hall.specs.Rule.{Answers}
 use Rattle.hall.specs.Stages.{here, FirstIn, None}
 use Rattle.hall.proofs.Answers.{true-not-false}
@@ -28,7 +28,7 @@ use Rattle.hall.proofs.Walks.{begins-on-node, ends-on-node, dist-unique}
 use Rattle.hall.proofs.Places.{Passed, each-first, loop-ends}
 use Rattle.walk.specs.Row.{Rowed, filled, refused}
 use Rattle.slots.specs.declared.Slot.{Slot}
-use Rattle.slots.specs.Record.{slotCount, free, slotAt, Held, Standing, lastTick, StandsAt}
+use Rattle.slots.specs.Record.{slotCount, free, slotAt, Standing, StandsAt}
 use Rattle.slots.specs.Refusals.{BadSlot, SomeBadSlot, far-distance}
 use Rattle.admission.specs.Refusals.{Stale, start-shut, goal-shut, other-distance}
 use Rattle.admission.specs.Questions.{staleChecks, staleSlots}

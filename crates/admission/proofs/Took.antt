@@ -2,13 +2,13 @@
 --     Took      the clock did not turn back, the tick is the smallest, the slot the lowest free one, and so
 --               on
 --     past      past its last tick a carrier permits every tick
-use mathlib.Core.Path.{_≡_, refl, sym, _∙_, ap, subst}
-use mathlib.Core.Logic.{inl, inr, _≢_}
-use mathlib.Core.List.{List, [], _∷_}
-use Prim.Native.Nat.{ℕ, zero, suc, _+_, _≤_, _<_}
-use native.Mathlib.Decide.{decLt, ℕ-discrete}
+use mathlib.Core.Path.{_≡_, refl, ap, subst}
+use mathlib.Core.Logic.{_≢_}
+use mathlib.Core.List.{[], _∷_}
+use Prim.Native.Nat.{ℕ, zero, _≤_, _<_}
+use native.Mathlib.Decide.{ℕ-discrete}
 use native.Mathlib.Omega.{arith}
-use lib.ListN.{length, set}
+use lib.ListN.{set}
 use Rattle.hall.specs.Floor.{Floor, Walk, here, Dist, Network, floor}
 use Rattle.hall.specs.Stages.{None}
 use Rattle.hall.specs.Ticks.{SmallestFrom}

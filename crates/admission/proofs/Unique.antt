@@ -1,12 +1,8 @@
 -- One answer and one book for each input: two outcomes of an admission that fit its promise are equal.
 -- Whether it is refused, and how, is the question's (`fits-unique`); of two accepted ones the tick, the own
 -- distance and the slot are one, so the book is. Assumes nothing.
-use mathlib.Core.Path.{_≡_, refl, sym, _∙_}
-use Prim.Native.Nat.{ℕ, _≤_, _<_}
-use native.Mathlib.Nat.{le-antisymm}
-use native.Mathlib.Decide.{decLt}
-use native.Mathlib.Omega.{arith}
-use mathlib.Core.List.{List}
+use mathlib.Core.Path.{_≡_, sym, _∙_}
+use Prim.Native.Nat.{ℕ}
 use lib.ListN.{set}
 use Rattle.hall.specs.Floor.{Network}
 use Rattle.hall.specs.Said.{Said, accepted, refused}
@@ -15,12 +11,11 @@ use Rattle.hall.proofs.Numbers.{number-one-fault}
 use Rattle.hall.proofs.Stages.{none-excludes, first-unique}
 use Rattle.hall.proofs.Ticks.{smallest-unique}
 use Rattle.slots.proofs.Unique.{lowest-once}
-use Rattle.slots.specs.declared.Slot.{Slot}
 use Rattle.slots.specs.declared.Book.{Book}
 use Rattle.admission.specs.declared.Entry.{Entry}
 use Rattle.admission.specs.declared.Answer.{Answer}
 use Rattle.admission.specs.declared.Answer.the-variants.{Starts, Refused}
-use Rattle.slots.specs.Record.{forgetting, LowestFree, bookWith}
+use Rattle.slots.specs.Record.{forgetting, bookWith}
 use Rattle.admission.specs.Admission.{carrierOf, Admitted, Admission, saidAnswer}
 
 module _ {N : Network} {b left other : Book} {now s g : ℕ} {e f : Entry} (a : Admitted N b now s g e left) (c : Admitted N b now s g f other) where

@@ -1,6 +1,6 @@
 -- One answer and one book left fit the promise of an admission to a book that is lent: it is the promise of
--- the step by value (`admission-unique` of crate `admission`), and an answer says one thing. Assumes nothing.
-use mathlib.Core.Path.{_≡_, refl, sym, _∙_, ap}
+-- the step by value (`answer-unique` of crate `admission`). Assumes nothing.
+use mathlib.Core.Path.{_≡_}
 use Prim.Native.Nat.{ℕ}
 use Rattle.hall.specs.Floor.{Network}
 use Rattle.slots.specs.declared.Book.{Book}

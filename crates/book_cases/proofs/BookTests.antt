@@ -7,7 +7,6 @@ use mathlib.Core.Path.{_≡_, ap}
 use mathlib.Core.Logic.{_⊎_, inl, inr, _≢_}
 use mathlib.Core.List.{List}
 use Prim.Native.Nat.{ℕ, _+_, _≤_, _<_}
-use native.Mathlib.Omega.{arith}
 use lib.ListN.{length}
 use Rattle.hall.specs.Limits.{nodeLimit, distanceLimit, dwellLimit}
 use Rattle.slots.specs.declared.Slot.{Slot}
@@ -16,6 +15,7 @@ use Rattle.slots.specs.Record.{slotCount, free, slotAt, lastTick, Standing, Low
 use Rattle.slots.specs.Refusals.{clockLimit, startTickLimit, BadSlot, far-start, far-goal, same-ends}
 use Rattle.slots.specs.Refusals.{no-distance, far-distance, late-start, BadHeld, SomeBadSlot}
 use Rattle.slots.specs.Refusals.{Damaged, late-clock, long-dwell, bad-slot}
+use Rattle.slots.proofs.Slots.{sum-free}
 use Rattle.admission.specs.Refusals.{Full}
 use Rattle.slots.specs.Questions.{bookQuestion}
 use Rattle.hall.proofs.Test.{Test, Some, le?, lt?, eq?, not?, _and?_, _or?_, _then?_, map?, all?, any?}
@@ -27,23 +27,8 @@ module _ (c : Slot) where
   abbrev pub sum : ℕ
   sum = c .start + c .goal + (c .distance + c .tick)
 
-  pub sum-free : sum ≡ 0 → c ≡ free
-  sum-free e = λ i. record { start = a i; goal = b i; distance = d i; tick = t i }
-    where
-      a : c .start ≡ 0
-      a = omega arith
-
-      b : c .goal ≡ 0
-      b = omega arith
-
-      d : c .distance ≡ 0
-      d = omega arith
-
-      t : c .tick ≡ 0
-      t = omega arith
-
   abbrev pub free? : Test (c ≡ free)
-  free? = map? sum-free (λ e. ap (λ (y : Slot). y .start + y .goal + (y .distance + y .tick)) e) (eq? sum 0)
+  free? = map? (sum-free c) (λ e. ap (λ (y : Slot). y .start + y .goal + (y .distance + y .tick)) e) (eq? sum 0)
 
   abbrev pub BadCase : Type 0
   BadCase =

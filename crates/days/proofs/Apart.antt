@@ -6,14 +6,13 @@
 --     day-paths         each carrier has a shortest path, so that the theorem speaks of something
 --     day-travels       it comes to its goal its distance after its start, and is nowhere after its last tick
 --     day-apart         the theorem
-use mathlib.Core.Path.{_≡_, refl}
 use mathlib.Core.Logic.{_≢_}
-use mathlib.Core.List.{List, [], _∷_}
-use Prim.Native.Nat.{ℕ, zero, suc, _+_, _≤_, _<_}
+use mathlib.Core.List.{List}
+use Prim.Native.Nat.{ℕ, zero, suc, _≤_, _<_}
 use native.Mathlib.Nat.{not-suc-le-zero}
 use native.Mathlib.Decide.{decLt}
 use native.Mathlib.Omega.{arith}
-use lib.ListN.{length, getD}
+use lib.ListN.{length}
 use Rattle.hall.specs.Limits.{nodeLimit}
 use Rattle.hall.specs.Floor.{Dist, Network, floor}
 use Rattle.hall.specs.Path.{ShortestPath}
@@ -29,8 +28,8 @@ use Rattle.admission.specs.Admission.{PermitsOne}
 use Rattle.admission.proofs.SoundCall.{call-tells}
 use Rattle.days.specs.Day.{Call, Day, begins, admits, refuses, PermittedEver, UnforgottenDay, Travels}
 use Rattle.days.specs.Day as D
-use Rattle.admission.proofs.Took.{Took, took}
-use Rattle.days.proofs.Days.{Remembers, remembers, unforgotten-day}
+use Rattle.admission.proofs.Took.{took}
+use Rattle.days.proofs.Days.{remembers, unforgotten-day}
 use Rattle.admission.proofs.Pairs.{six}
 
 -- the lists have the latest first, so p is later than q

@@ -5,23 +5,22 @@
 --     Remembers        what a book still knows of the carriers ever admitted
 --     same-ticks       the theorem: the carriers that a day admitted, ticks included, are those of that
 --                      book
-use mathlib.Core.Path.{_≡_, refl, sym, _∙_, ap, subst}
-use mathlib.Core.Logic.{_⊎_, inl, inr, _≢_}
+use mathlib.Core.Path.{_≡_, refl, sym, _∙_, subst}
+use mathlib.Core.Logic.{_⊎_, inl, inr}
 use mathlib.Core.List.{List, [], _∷_}
-use Prim.Native.Nat.{ℕ, zero, suc, _+_, _≤_, _<_}
+use Prim.Native.Nat.{ℕ, zero, suc, _≤_, _<_}
 use native.Mathlib.Nat.{not-suc-le-zero}
 use native.Mathlib.Decide.{decLt}
 use native.Mathlib.Omega.{arith}
 use lib.ListN.{length, getD, set, replicate, length-replicate, getD-replicate, length-set}
 use Rattle.hall.specs.Floor.{Dist, Network, floor}
 use Rattle.hall.specs.Ticks.{SmallestFrom}
-use Rattle.hall.specs.Said.{accepted}
 use Rattle.hall.proofs.Walks.{dist-unique}
 use Rattle.hall.proofs.Ticks.{smallest-unique}
 use Rattle.slots.specs.declared.Slot.{Slot}
 use Rattle.slots.specs.declared.Book.{Book}
-use Rattle.slots.specs.Record.{slotCount, free, slotAt, Held, Standing, lastTick, forgetting, emptyBook}
-use Rattle.admission.specs.Admission.{PermitsOne, PermittedHeld, carrierOf, Admission}
+use Rattle.slots.specs.Record.{slotCount, free, slotAt, Held, lastTick, forgetting, emptyBook}
+use Rattle.admission.specs.Admission.{PermitsOne, PermittedHeld, carrierOf}
 use Rattle.slots.proofs.Slots.{Stands, forgetting-length, still-held, held-still, new-stands, others-stand, new-or-held}
 use Rattle.days.specs.Day.{Call, Day, begins, admits, refuses, PermittedEver, UnforgottenDay}
 use Rattle.days.specs.Day as D

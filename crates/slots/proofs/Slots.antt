@@ -10,16 +10,16 @@ use mathlib.Core.List.{List, map}
 use Prim.Native.Nat.{ℕ, _+_, _≤_, _<_}
 use native.Mathlib.Decide.{ℕ-discrete, decLt}
 use native.Mathlib.Omega.{arith}
-use lib.Dec.{ltb, eqb, eqb→eq, T}
+use lib.Dec.{ltb, eqb, T}
 use lib.ListN.{length, getD, set, length-set, length-map, List·getD-map}
 use lib.Seq.{getD-set-same, getD-set-other}
 use borrow.Author.Tests.{lt-ltb, le-ltb, ne-eqb}
 use Rattle.hall.proofs.Answers.{true-not-false}
 use Rattle.hall.proofs.Lowest.{dec-and}
 use Rattle.slots.specs.declared.Slot.{Slot}
-use Rattle.slots.specs.Record.{slotCount, free, isFree, slotAt, Held, Standing, lastTick, freed}
+use Rattle.slots.specs.Record.{slotCount, free, isFree, slotAt, Held, Standing, lastTick}
 use Rattle.slots.specs.Record.{forgotten, forgetting, LowestFree}
-use Rattle.slots.specs.Refusals.{BadSlot, BadHeld, SomeBadSlot, far-distance}
+use Rattle.slots.specs.Refusals.{BadSlot, BadHeld, SomeBadSlot}
 
 -- ---- free or not
 
@@ -34,8 +34,9 @@ pub free-test : (c : Slot) → c ≡ free → isFree c ≡ true
 unfolding isFree
 free-test c e = ap isFree e
 
-nonzero : (c : Slot) → c ≢ free → c .start + c .goal + (c .distance + c .tick) ≢ 0
-nonzero c k e = k (λ i. record { start = a i; goal = b i; distance = d i; tick = t i })
+-- numbers that sum up to 0 are 0
+pub sum-free : (c : Slot) → c .start + c .goal + (c .distance + c .tick) ≡ 0 → c ≡ free
+sum-free c e = λ i. record { start = a i; goal = b i; distance = d i; tick = t i }
   where
     a : c .start ≡ 0
     a = omega arith
@@ -51,7 +52,7 @@ nonzero c k e = k (λ i. record { start = a i; goal = b i; distance = d i; tick 
 
 pub taken-test : (c : Slot) → c ≢ free → isFree c ≡ false
 unfolding isFree
-taken-test c k = ne-eqb (c .start + c .goal + (c .distance + c .tick)) 0 (nonzero c k)
+taken-test c k = ne-eqb (c .start + c .goal + (c .distance + c .tick)) 0 (λ e. k (sum-free c e))
 
 pub test-free : (c : Slot) → isFree c ≡ true → c ≡ free
 test-free c e = cases (is-free-dec c)

@@ -1,7 +1,7 @@
 -- One answer fits each promise of the record. A yes or no that tells of a statement is the only one, there is
 -- one lowest free slot, and a question has one first fault. The other promises are equations of the result.
 -- Assumes nothing.
-use mathlib.Core.Path.{_≡_, refl, sym, _∙_}
+use mathlib.Core.Path.{_≡_, sym, _∙_}
 use mathlib.Core.Bool.{Bool}
 use mathlib.Core.List.{List}
 use Prim.Native.Nat.{ℕ, _≤_, _<_}

@@ -14,7 +14,7 @@ ghost use mathlib.Core.Path.{_≡_};
 ghost use lib.ListN.{length};
 ghost use Rattle.hall.specs.Rule.{Answers};
 ghost use Rattle.hall.specs.Said.{Judged};
-ghost use Rattle.slots.specs.Record.{slotCount, isFree, goalTick, lastTick, StandsAt};
+ghost use Rattle.slots.specs.Record.{slotCount, isFree, lastTick, StandsAt};
 ghost use Rattle.slots.specs.Record.{bookWith, emptyBook, forgotten, forgetting, AsFree};
 ghost use Rattle.slots.specs.Refusals.{BadHeld, SomeBadSlot, Damaged};
 ghost use Rattle.slots.specs.Questions.{bookQuestion};

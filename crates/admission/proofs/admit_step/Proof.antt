@@ -1,11 +1,9 @@
 -- `admission::admit_step` meets its contract: a refusal of the checks is the first fault, 15 is given if no slot
 -- is free after forgetting, and else the carrier has the smallest tick and the lowest free slot. Assumes nothing.
-use mathlib.Core.Path.{_≡_, refl, sym, _∙_, ap}
 use mathlib.Core.List.{List, [], _∷_}
 use Prim.Native.Nat.{ℕ, _≤_, _<_}
 use native.Mathlib.Omega.{arith}
 use borrow.Author.Needs.{needs}
-use lib.ListN.{length, getD}
 use Rattle.hall.specs.Floor.{Network, networkOf}
 use Rattle.hall.specs.Stages.{None}
 use Rattle.hall.proofs.Compose.{first-before, refused-first, sound-none}

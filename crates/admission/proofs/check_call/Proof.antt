@@ -1,7 +1,6 @@
 -- `admission::check_call` meets its contract: 16 and 14, then those of the network and the move, then 17, each by
 -- the promise of the function that checks them. Assumes nothing.
 use mathlib.Core.List.{[], _∷_, _++_}
-use native.Mathlib.Omega.{arith}
 use borrow.Author.Needs.{needs}
 use Rattle.hall.specs.Floor.{Network, networkOf}
 use Rattle.hall.specs.Stages.{Question}

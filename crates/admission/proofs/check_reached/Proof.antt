@@ -1,7 +1,7 @@
 -- `admission::check_reached` meets its contract: the checks before 8 first, and a refusal of theirs is the first
 -- fault. If they find none, the walks from the start and from the goal fill the rows, and the place of the
 -- goal tells whether there is a walk. Assumes nothing.
-use mathlib.Core.Path.{_≡_, refl}
+use mathlib.Core.Path.{refl}
 use mathlib.Core.List.{[], _∷_}
 use native.Mathlib.Omega.{arith}
 use borrow.Author.Needs.{needs}

@@ -1,5 +1,5 @@
 -- `admission::entered` meets its contract: the book is the one that `Book::with_slots` answers. Assumes nothing.
-use mathlib.Core.Path.{_≡_, refl}
+use mathlib.Core.Path.{refl}
 use borrow.Author.Needs.{needs}
 use Rattle.admission.proofs.entered.Statement.{statement}
 use Rattle.admission.proofs.entered.Tie as tie

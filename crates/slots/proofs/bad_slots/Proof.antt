@@ -1,7 +1,6 @@
 -- `slots::bad_slots` meets its contract. The invariant: no slot before place i holds a bad carrier. The
 -- measure is how many are left. Assumes nothing.
-use mathlib.Core.Path.{_≡_, refl}
-use Prim.Native.Nat.{ℕ, _+_, _-_, _≤_, _<_}
+use Prim.Native.Nat.{ℕ, _-_, _≤_, _<_}
 use native.Mathlib.Omega.{arith}
 use borrow.Author.Count.{below-more}
 use Rattle.hall.proofs.Answers.{affirmed, denied}

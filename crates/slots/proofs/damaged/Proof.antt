@@ -1,8 +1,7 @@
 -- `slots::damaged` meets its contract: each test is one of the cases, and where none holds there is none.
 -- Assumes nothing.
-use mathlib.Core.Path.{_≡_}
 use mathlib.Core.Bool.{Bool, true, false}
-use Prim.Native.Nat.{ℕ, _≤_}
+use Prim.Native.Nat.{_≤_}
 use native.Mathlib.Omega.{arith}
 use borrow.Author.Needs.{needs}
 use Rattle.hall.specs.Limits.{dwellLimit}

@@ -1,5 +1,5 @@
 -- `slots::kept` meets its contract: each way answers what `forgotten` says. Assumes nothing.
-use mathlib.Core.Path.{_≡_, sym, _∙_}
+use mathlib.Core.Path.{sym, _∙_}
 use native.Mathlib.Omega.{arith}
 use borrow.Author.Needs.{needs}
 use Rattle.slots.proofs.Slots.{forgotten-past, forgotten-kept}

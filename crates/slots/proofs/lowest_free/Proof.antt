@@ -1,8 +1,8 @@
 -- `slots::lowest_free` meets its contract. The invariant: no slot before `place` is free. The measure is how
 -- many are left. Assumes nothing.
-use mathlib.Core.Path.{_≡_, refl}
+use mathlib.Core.Path.{refl}
 use mathlib.Core.Logic.{_≢_}
-use Prim.Native.Nat.{ℕ, _+_, _-_, _≤_, _<_}
+use Prim.Native.Nat.{ℕ, _-_, _≤_, _<_}
 use native.Mathlib.Omega.{arith}
 use borrow.Author.Count.{below-more}
 use Rattle.slots.specs.Record.{free, slotAt, found, none-free}

@@ -1,7 +1,7 @@
 -- `admission::stale::check_held` meets its contract. The invariant: the starts of the slots before place i are sieved.
 -- The measure is how many slots are left. Assumes nothing.
-use mathlib.Core.Path.{_≡_, refl}
-use Prim.Native.Nat.{ℕ, _+_, _-_, _≤_, _<_}
+use mathlib.Core.Path.{_≡_}
+use Prim.Native.Nat.{_-_}
 use native.Mathlib.Omega.{arith}
 use lib.ListN.{length}
 use Rattle.hall.specs.Floor.{Network, networkOf}

@@ -1,7 +1,6 @@
 -- `admission::stale::judged_before` meets its contract. The invariant: no slot before place j with this start stands.
 -- The measure is how many are left. Assumes nothing.
-use mathlib.Core.Path.{_≡_}
-use Prim.Native.Nat.{ℕ, _+_, _-_, _≤_, _<_}
+use Prim.Native.Nat.{ℕ, _-_, _≤_, _<_}
 use native.Mathlib.Omega.{arith}
 use borrow.Author.Count.{below-more}
 use Rattle.hall.proofs.Answers.{affirmed, denied}

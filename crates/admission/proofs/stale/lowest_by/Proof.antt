@@ -1,7 +1,6 @@
 -- `admission::stale::lowest_by` meets its contract. The invariant: no slot from `from` on and before place p is told to
 -- be stale. The measure is how many are left. Assumes nothing.
-use mathlib.Core.Path.{_≡_}
-use Prim.Native.Nat.{ℕ, _+_, _-_, _≤_, _<_}
+use Prim.Native.Nat.{ℕ, _-_, _≤_, _<_}
 use native.Mathlib.Omega.{arith}
 use borrow.Author.Count.{below-more}
 use Rattle.hall.proofs.Answers.{affirmed, denied}

@@ -1,7 +1,6 @@
 -- `admission::stale::sieve` meets its contract: the slot does not stand, or its start was seen, or the row from its
 -- start judges every slot that stands and has it. Assumes nothing.
 use mathlib.Core.Path.{_≡_, refl}
-use Prim.Native.Nat.{ℕ, _≤_, _<_}
 use native.Mathlib.Omega.{arith}
 use lib.ListN.{length}
 use borrow.Author.Needs.{needs}

@@ -1,5 +1,4 @@
 -- `admission::stale::stands_from` meets its contract. Assumes nothing.
-use mathlib.Core.Path.{_≡_}
 use native.Mathlib.Omega.{arith}
 use borrow.Author.Needs.{needs}
 use Rattle.admission.proofs.StaleSlots.{stands-there}

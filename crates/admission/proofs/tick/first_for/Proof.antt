@@ -1,10 +1,8 @@
 -- `admission::tick::first_for` meets its contract. The invariant: the first i slots are gathered. The measure is how
 -- many are left. Assumes nothing.
 use mathlib.Core.Path.{_≡_, refl, sym}
-use Prim.Native.Nat.{ℕ, _+_, _*_, _-_, _≤_, _<_}
+use Prim.Native.Nat.{_-_, _≤_}
 use native.Mathlib.Omega.{arith}
-use borrow.Author.Needs.{needs}
-use lib.ListN.{length}
 use Rattle.admission.proofs.Gathering.{GatheredTo, gathered-none, gathered-more, gathered-smallest}
 use Rattle.admission.proofs.tick.first_for.Statement.{statement}
 use Rattle.admission.proofs.tick.first_for.Tie as tie

@@ -1,5 +1,5 @@
 -- `admission::tick::hold_slot` meets its contract: the seven numbers are those that `pairFor` names. Assumes nothing.
-use mathlib.Core.Path.{_≡_, _∙_, ap}
+use mathlib.Core.Path.{_∙_, ap}
 use Prim.Native.Nat.{ℕ}
 use native.Mathlib.Omega.{arith}
 use lib.ListN.{getD}

@@ -1,6 +1,5 @@
 -- `admission::tick::starts_for` meets its contract, each way by what the test says. Assumes nothing.
-use mathlib.Core.Path.{_≡_, refl, sym, _∙_, ap}
-use mathlib.Core.Bool.{Bool, true, false}
+use mathlib.Core.Path.{sym, _∙_, ap}
 use borrow.Author.Needs.{needs}
 use Rattle.admission.specs.Steps.{startsFor}
 use Rattle.admission.proofs.tick.starts_for.Statement.{statement}
