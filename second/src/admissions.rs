@@ -15,8 +15,15 @@ use crate::network::Network;
 use crate::text;
 
 /// When all carriers come, and when the new one does.
-const NOW: u32 = 5000;
+pub const NOW: u32 = 5000;
 const CHUTES: usize = 4;
+
+/// A hall with lifts and chutes.
+pub struct Ends {
+    pub hall: Hall,
+    chutes: Vec<u16>,
+    lifts: Vec<u16>,
+}
 
 /// A book, a hall and a call.
 pub struct Site {
@@ -35,35 +42,49 @@ fn hall_named(dice: &mut Dice, name: &str) -> Result<Hall, String> {
     }
 }
 
-impl Site {
-    /// So many slots are taken, from so many lifts.
-    pub fn of(name: &str, held: usize, starts: usize) -> Result<Site, String> {
-        if held > SLOTS || starts > held || (starts == 0) != (held == 0) {
-            return Err("a book holds at most 64, from at most as many lifts".to_string());
-        }
+impl Ends {
+    /// Those of the named hall.
+    pub fn of(name: &str) -> Result<Ends, String> {
         let mut dice = Dice::new(1);
         let hall = hall_named(&mut dice, name)?;
         let reach = Network::of(&hall).distances_from(0);
         let mut nodes: Vec<u16> =
             (0..1024).filter(|&node| reach[usize::from(node)].is_some()).collect();
         dice.shuffle(&mut nodes);
-        let (chutes, lifts) = nodes.split_at(CHUTES);
-        let asked = |carrier: usize| Move {
-            start: lifts[carrier % starts.max(1)],
-            goal: chutes[carrier / starts.max(1) % CHUTES],
-        };
-        let mut ledger = Ledger::of(&hall, &Book::empty(0));
+        let lifts = nodes.split_off(CHUTES);
+        Ok(Ends { hall, chutes: nodes, lifts })
+    }
+
+    /// The move of a carrier where so many lifts are in use.
+    pub fn asked(&self, carrier: usize, starts: usize) -> Move {
+        let start = self.lifts[carrier % starts];
+        Move { start, goal: self.chutes[carrier / starts % CHUTES] }
+    }
+
+    /// A book with so many carriers, who have all come at the same tick.
+    pub fn book(&self, held: usize, starts: usize) -> Result<Book, String> {
+        let mut ledger = Ledger::of(&self.hall, &Book::empty(0));
         for carrier in 0..held {
-            let admitted = ledger.admit(Call { now: NOW, asked: asked(carrier) });
+            let admitted = ledger.admit(Call { now: NOW, asked: self.asked(carrier, starts) });
             admitted.map_err(|refusal| format!("refused with {}", refusal.number))?;
         }
-        let mut book = ledger.told();
+        Ok(Book { clock: NOW, ..ledger.told() })
+    }
+}
+
+impl Site {
+    /// So many slots are taken, from so many lifts.
+    pub fn of(name: &str, held: usize, starts: usize) -> Result<Site, String> {
+        if held > SLOTS || starts > held || (starts == 0) != (held == 0) {
+            return Err("a book holds at most 64, from at most as many lifts".to_string());
+        }
+        let ends = Ends::of(name)?;
+        let mut book = ends.book(held, starts.max(1))?;
         if held == SLOTS {
             book.slots[0].tick = 0;
         }
-        book.clock = NOW;
-        let call = Call { now: NOW, asked: asked(held) };
-        Ok(Site { hall, book, call })
+        let call = Call { now: NOW, asked: ends.asked(held, starts.max(1)) };
+        Ok(Site { hall: ends.hall, book, call })
     }
 
     /// A batch of `count` cases, each with one call that is made so many times

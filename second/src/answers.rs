@@ -8,6 +8,7 @@ use crate::lent::{self, Lent};
 use crate::lent_book;
 use crate::lent_plan;
 use crate::lent_read;
+use crate::lent_trolley;
 use crate::lent_write;
 use crate::paths::{judge_for_carrier, judge_for_move};
 use crate::plan::{plan, Plan};
@@ -21,6 +22,8 @@ pub enum Answer {
     Passed,
     /// The answer of a question whose tables were lent, and what they hold.
     Left(Lent),
+    /// The same of a trolley that was refused at the move with this number.
+    OfMove(usize, Lent),
 }
 
 fn either<T>(result: Result<T, Refusal>, accepted: impl Fn(T) -> Answer) -> Answer {
@@ -52,8 +55,8 @@ fn judged(result: Result<(), Refusal>) -> Answer {
     either(result, |()| Answer::Passed)
 }
 
-/// All answers to one case: two for `n`, one for each call of `B`, and one for every
-/// other kind.
+/// All answers to one case: two for `n`, one for each call of `B`, one for each trolley
+/// of `T` and each move there that comes by itself, and one for every other kind.
 pub fn answers_to(case: &Case) -> Vec<Answer> {
     let one = match case {
         Case::Plan { text } => answer_to_text(text),
@@ -107,6 +110,9 @@ pub fn answers_to(case: &Case) -> Vec<Answer> {
             let answers = lent_book::admissions(*each > 0, *again, asked);
             return answers.into_iter().map(Answer::Left).collect();
         }
+        Case::AdmitAll { each, again, asked } => {
+            return lent_trolley::arrivals(*each > 0, *again, asked);
+        }
     };
     vec![one]
 }
@@ -130,7 +136,7 @@ impl Answer {
     pub fn refusal(&self) -> Option<Refusal> {
         match self {
             Answer::Refused(refusal) => Some(*refusal),
-            Answer::Left(lent) => lent.said.as_ref().err().copied(),
+            Answer::Left(lent) | Answer::OfMove(_, lent) => lent.said.as_ref().err().copied(),
             _ => None,
         }
     }
@@ -141,6 +147,7 @@ impl Answer {
             Answer::Planned(plan) => printed_plan(plan),
             Answer::Passed => "PASSED\n".to_string(),
             Answer::Left(lent) => lent.printed(),
+            Answer::OfMove(number, lent) => format!("MOVE {} {}", number, lent.printed()),
         }
     }
 }

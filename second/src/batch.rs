@@ -8,6 +8,7 @@
 use crate::book::Admissions;
 use crate::job::{Hall, Move};
 use crate::lent_jobs::{Listed, Recorded};
+use crate::trolley::Arrivals;
 
 #[derive(Clone)]
 pub enum Case {
@@ -56,10 +57,13 @@ pub enum Case {
     /// the last call, or after each if the first number is not 0; the second says
     /// how many times more each call is made, on a copy of the book.
     Admit { each: u16, again: u16, asked: Box<Admissions> },
+    /// `T`: the same with trolleys, each with a lent answer list, and with moves that
+    /// are admitted one by one.
+    AdmitAll { each: u16, again: u16, asked: Box<Arrivals> },
 }
 
 /// All kinds, in the order in which the histogram shows them.
-pub const KINDS: &[u8] = b"PHhQqCnWrmaptowjcxyB";
+pub const KINDS: &[u8] = b"PHhQqCnWrmaptowjcxyBT";
 
 impl Case {
     pub fn kind(&self) -> u8 {
@@ -84,6 +88,7 @@ impl Case {
             Case::WriteNumbers { .. } => b'x',
             Case::WriteRecords { .. } => b'y',
             Case::Admit { .. } => b'B',
+            Case::AdmitAll { .. } => b'T',
         }
     }
 }

@@ -8,7 +8,7 @@ use crate::book::{Admissions, Call, Slot, LATEST_CLOCK, LATEST_TICK};
 use crate::book_make::{among, call, carrier};
 use crate::halls::grid;
 
-type Fault = fn(&mut Admissions);
+pub type Fault = fn(&mut Admissions);
 
 fn asked(admissions: &mut Admissions) -> &mut Call {
     &mut admissions.calls[0]
@@ -48,7 +48,7 @@ const HALL_FAULTS: &[Fault] = &[
 
 /// Refusals 4, 13, 8 and 5 of the move. Node 5 is closed, and 12 and 13 have a lane
 /// of their own.
-const MOVE_FAULTS: &[Fault] = &[
+pub const MOVE_FAULTS: &[Fault] = &[
     |case| asked(case).asked.start = 14,
     |case| asked(case).asked.goal = 65_535,
     |case| asked(case).asked.start = 5,
@@ -77,7 +77,7 @@ const SLOT_FAULTS: &[Fault] = &[
 
 /// Three rows of four nodes and two nodes apart, a book with carriers in half of
 /// its slots, and one call.
-fn sound() -> Admissions {
+pub fn sound() -> Admissions {
     let mut hall = grid(12, 4);
     hall.nodes = 14;
     hall.lane_numbers.extend([12, 13]);
@@ -88,7 +88,7 @@ fn sound() -> Admissions {
     Admissions { hall, book, calls: vec![call(500, 8, 2)] }
 }
 
-fn all_faults() -> Vec<Fault> {
+pub fn all_faults() -> Vec<Fault> {
     [BOOK_FAULTS, CLOCK_FAULTS, HALL_FAULTS, MOVE_FAULTS, SLOT_FAULTS].concat()
 }
 

@@ -49,7 +49,7 @@ fn whole_day(dice: &mut Dice, hall: &Hall, load: &Load) -> Case {
 }
 
 /// Moves from so many lifts into so many chutes, all of them joined and open.
-fn served(dice: &mut Dice, hall: &Hall, lifts: usize, chutes: usize) -> Vec<Move> {
+pub fn served(dice: &mut Dice, hall: &Hall, lifts: usize, chutes: usize) -> Vec<Move> {
     let network = Network::of(hall);
     loop {
         let lift = dice.below(network.nodes());

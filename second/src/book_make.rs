@@ -84,6 +84,34 @@ pub enum Pace {
     Mixed,
 }
 
+/// A clock value that follows that of the book.
+pub fn next_now(book: &Book, dice: &mut Dice, pace: Pace) -> u32 {
+    let clock = i64::from(book.clock);
+    let now = match pace {
+        Pace::Still => clock,
+        Pace::Creeping => clock + dice.below(3) as i64,
+        Pace::Striding(most) => clock + dice.below(most + 1) as i64,
+        Pace::Leaving => match book.slots[dice.below(SLOTS)] {
+            slot if slot.is_free() => clock,
+            slot => clock.max(slot.last_tick(book.dwell) as i64 + dice.below(2) as i64),
+        },
+        Pace::Mixed => match dice.below(12) {
+            0 => clock - dice.between(1, 3) as i64,
+            1..=3 => return next_now(book, dice, Pace::Still),
+            4..=6 => return next_now(book, dice, Pace::Creeping),
+            7..=9 => return next_now(book, dice, Pace::Leaving),
+            _ => return next_now(book, dice, Pace::Striding(40)),
+        },
+    };
+    clipped(now.min(i64::from(LATEST_CLOCK) + 1))
+}
+
+/// The lowest last tick in a book, if it holds anybody.
+pub fn first_to_leave(book: &Book) -> Option<u32> {
+    let held = book.slots.iter().filter(|slot| !slot.is_free());
+    held.map(|slot| clipped(slot.last_tick(book.dwell) as i64)).min()
+}
+
 pub struct Day<'a> {
     hall: &'a Hall,
     lent: Book,
@@ -109,32 +137,11 @@ impl<'a> Day<'a> {
 
     /// The clock value of the next call.
     pub fn next(&self, dice: &mut Dice, pace: Pace) -> u32 {
-        let book = self.book();
-        let clock = i64::from(book.clock);
-        let now = match pace {
-            Pace::Still => clock,
-            Pace::Creeping => clock + dice.below(3) as i64,
-            Pace::Striding(most) => clock + dice.below(most + 1) as i64,
-            Pace::Leaving => match book.slots[dice.below(SLOTS)] {
-                slot if slot.is_free() => clock,
-                slot => clock.max(slot.last_tick(book.dwell) as i64 + dice.below(2) as i64),
-            },
-            Pace::Mixed => match dice.below(12) {
-                0 => clock - dice.between(1, 3) as i64,
-                1..=3 => return self.next(dice, Pace::Still),
-                4..=6 => return self.next(dice, Pace::Creeping),
-                7..=9 => return self.next(dice, Pace::Leaving),
-                _ => return self.next(dice, Pace::Striding(40)),
-            },
-        };
-        clipped(now.min(i64::from(LATEST_CLOCK) + 1))
+        next_now(&self.book(), dice, pace)
     }
 
-    /// The lowest last tick in the book, if it holds anybody.
     pub fn first_to_leave(&self) -> Option<u32> {
-        let book = self.book();
-        let held = book.slots.iter().filter(|slot| !slot.is_free());
-        held.map(|slot| clipped(slot.last_tick(book.dwell) as i64)).min()
+        first_to_leave(&self.book())
     }
 
     pub fn told_each(self) -> Case {

@@ -13,11 +13,11 @@ use crate::dwelling::some_dwell;
 use crate::halls::{any_hall, grid};
 use crate::job::Hall;
 
-const CLOCK: u32 = 50;
+pub const CLOCK: u32 = 50;
 
 /// Three rows of four nodes of which node 5 is closed, and two nodes more that
 /// have a lane of their own.
-fn hall() -> Hall {
+pub fn hall() -> Hall {
     let mut hall = grid(12, 4);
     hall.nodes = 14;
     hall.lane_numbers.extend([12, 13]);
@@ -32,7 +32,7 @@ fn slot(start: u16, goal: u16, distance: u16) -> Slot {
 /// Carriers that do not fit the hall, each for one reason: its start or its goal
 /// is no node or closed, no walk joins them, or they are farther from each other
 /// or nearer.
-fn misfits() -> Vec<Slot> {
+pub fn misfits() -> Vec<Slot> {
     vec![
         slot(14, 3, 4),
         slot(1023, 0, 1023),
@@ -52,7 +52,7 @@ fn misfits() -> Vec<Slot> {
 
 /// Carriers that fit the hall, one that is past and no node of it any more, and
 /// one that is past and has a closed goal.
-fn others() -> Vec<Slot> {
+pub fn others() -> Vec<Slot> {
     let hall = hall();
     let past = |misfit: Slot| Slot { distance: 3, tick: 1, ..misfit };
     vec![

@@ -8,8 +8,12 @@ use crate::book::Admissions;
 use crate::job::{Hall, Move};
 use crate::lent_jobs::{Listed, Recorded};
 use crate::payload::{
-    put_admissions, put_list, put_listed, put_long, put_recorded, put_shorts, Rest,
+    put_admissions, put_arrivals, put_list, put_listed, put_long, put_recorded, put_shorts, Rest,
 };
+use crate::trolley::Arrivals;
+
+/// More bytes than this the batch program does not take.
+const MOST_BYTES: usize = 262_144;
 
 /// The parts of a payload. A number or a list that the kind has no use for is 0
 /// or empty. The body is a text, or the bytes of a job from numbers.
@@ -62,6 +66,12 @@ fn recorded(job: &Recorded) -> Vec<u8> {
 fn admissions(asked: &Admissions) -> Vec<u8> {
     let mut out = network(&asked.hall);
     put_admissions(&mut out, asked);
+    out
+}
+
+fn arrivals(asked: &Arrivals) -> Vec<u8> {
+    let mut out = network(&asked.hall);
+    put_arrivals(&mut out, asked);
     out
 }
 
@@ -132,6 +142,9 @@ impl Case {
             Case::Admit { each, again, asked } => {
                 Parts::new([asked.calls.len() as u16, *each, *again, 0], admissions(asked))
             }
+            Case::AdmitAll { each, again, asked } => {
+                Parts::new([asked.arrivals.len() as u16, *each, *again, 0], arrivals(asked))
+            }
         }
     }
 
@@ -141,6 +154,7 @@ impl Case {
 
     pub fn put(&self, out: &mut Vec<u8>) {
         let payload = self.payload();
+        assert!(payload.len() <= MOST_BYTES, "a payload has at most 262,144 bytes");
         out.push(self.kind());
         put_long(out, payload.len() as u32);
         out.extend(payload);
@@ -176,6 +190,11 @@ impl Case {
                 let hall = body.listed()?.hall;
                 let asked = Box::new(body.admissions(a0, hall)?);
                 Case::Admit { each: a1, again: a2, asked }
+            }
+            b'T' => {
+                let hall = body.listed()?.hall;
+                let asked = Box::new(body.arrivals(a0, hall)?);
+                Case::AdmitAll { each: a1, again: a2, asked }
             }
             other => return Err(format!("no kind has the byte {}", other)),
         };

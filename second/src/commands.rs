@@ -13,6 +13,7 @@ use crate::limit_size;
 use crate::program_texts;
 use crate::safe;
 use crate::selftest;
+use crate::trolley_site;
 use std::io::{self, Read, Write};
 
 fn print(bytes: &[u8]) -> Result<(), String> {
@@ -98,6 +99,26 @@ pub fn carriers_command(words: [&str; 4], path: &str) -> Result<bool, String> {
     let [hall, held, starts, count] = words;
     let cases = site(hall, held, starts)?.plans(number(count)? as usize);
     write_batch(path, &cases)?;
+    Ok(true)
+}
+
+/// The hall, how many slots are taken, how many moves come, whether one by one (1) or
+/// as a trolley (0), how often that is done again, and how many cases there are.
+pub fn trolleys_command(words: [&str; 6], path: &str) -> Result<bool, String> {
+    let [hall, held, moves, one, again, count] = words;
+    let one_by_one = match one {
+        "0" => false,
+        "1" => true,
+        other => return Err(format!("{} is neither 0 nor 1", other)),
+    };
+    let case = trolley_site::case(
+        hall,
+        number(held)? as usize,
+        number(moves)? as usize,
+        one_by_one,
+        short(again)?,
+    )?;
+    write_batch(path, &vec![case; number(count)? as usize])?;
     Ok(true)
 }
 

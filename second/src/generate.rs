@@ -1,8 +1,8 @@
 // A batch: all small networks, also with closed nodes or a dwell, the systematic
 // faults, carriers that wait on their goals, trains, the limits, lent tables of
 // all lengths, as many random cases as asked for, jobs that are written as texts,
-// and floor books. Random cases take turns through every kind and every damage, so
-// that even a short run has some of each.
+// floor books, and trolleys. Random cases take turns through every kind and every
+// damage, so that even a short run has some of each.
 
 use crate::batch::Case;
 use crate::book_cases::book_cases;
@@ -26,6 +26,7 @@ use crate::small_closed::small_closed_cases;
 use crate::systematic::systematic_cases;
 use crate::text;
 use crate::trains::train_cases;
+use crate::trolley_cases::trolley_cases;
 use crate::write_cases::write_cases;
 
 /// Most nodes in a random hall. The limits have cases of their own.
@@ -234,5 +235,6 @@ pub fn batch(seed: u64, count: usize) -> Vec<Case> {
     cases.extend(random_cases(&mut dice, count));
     cases.extend(write_cases(&mut dice, count));
     cases.extend(book_cases(&mut dice, count));
+    cases.extend(trolley_cases(&mut dice, count));
     cases
 }

@@ -2,12 +2,13 @@
 // it meets each refusal, so that a reader sees at a glance what is missing.
 // Refusal 9 comes only where a table is lent shorter than its least length, and
 // the column of 6, which is not in use, has zeros alone. Of a floor book each call
-// counts by itself. What was chosen, planned, written and admitted is told in a few
-// lines below the table.
+// counts by itself, and a trolley counts once. What was chosen, planned, written and
+// admitted is told in a few lines below the table.
 
 use crate::answers::answers_to;
 use crate::batch::{Case, KINDS};
 use crate::histogram_book::Admitted;
+use crate::histogram_trolley::Unloaded;
 use crate::histogram_write::Written;
 use crate::job::{Job, Refusal, MOST_CARRIERS, MOST_DWELL};
 use crate::paths::{choose, Choice};
@@ -140,7 +141,7 @@ impl Extra {
     }
 
     fn note_refusal(&mut self, case: &Case, refusal: Refusal) {
-        if refusal.number == 2 && b"nptowjxyB".contains(&case.kind()) {
+        if refusal.number == 2 && b"nptowjxyBT".contains(&case.kind()) {
             self.places[refusal.at] += 1;
         }
     }
@@ -157,9 +158,11 @@ pub fn histogram(cases: &[Case]) -> String {
     let mut shared = Shared::default();
     let mut written = Written::default();
     let mut admitted = Admitted::default();
+    let mut unloaded = Unloaded::default();
     for case in cases {
         extra.note(case);
         admitted.note(case);
+        unloaded.note(case);
         let place = KINDS.iter().position(|&kind| kind == case.kind()).expect("a known kind");
         rows[place].cases += 1;
         for answer in answers_to(case) {
@@ -176,7 +179,8 @@ pub fn histogram(cases: &[Case]) -> String {
             }
         }
     }
-    let below = [shared.printed(), written.printed(), admitted.printed()].concat();
+    let below =
+        [shared.printed(), written.printed(), admitted.printed(), unloaded.printed()].concat();
     printed(&rows, &extra, &below)
 }
 

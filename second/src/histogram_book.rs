@@ -9,7 +9,7 @@ use crate::job::{Refusal, MOST_DWELL};
 use crate::ledger::Ledger;
 
 /// Halls of so many nodes are large.
-const LARGE: u32 = 512;
+pub const LARGE: u32 = 512;
 
 #[derive(Default)]
 pub struct Admitted {

@@ -2,8 +2,13 @@
 // or its refusal, and what the book holds, behind each call or behind the last.
 
 use crate::book::Admissions;
-use crate::ledger::Ledger;
+use crate::job::Refusal;
+use crate::ledger::{Admitted, Ledger};
 use crate::lent::Lent;
+
+pub fn said_of_call(answer: Result<Admitted, Refusal>) -> Result<String, Refusal> {
+    answer.map(|(tick, slot)| format!("STARTS {} {}", tick, slot))
+}
 
 /// What is said to each call. If not `each` the book is told behind the last call
 /// alone. Each call is made so many times again on a copy of the book before it,
@@ -20,8 +25,7 @@ pub fn admissions(each: bool, again: u16, asked: &Admissions) -> Vec<Lent> {
         }
         let is_told = each || number + 1 == asked.calls.len();
         let tables = if is_told { vec![("book", ledger.told().numbers())] } else { Vec::new() };
-        let said = admitted.map(|(tick, slot)| format!("STARTS {} {}", tick, slot));
-        answers.push(Lent { said, tables });
+        answers.push(Lent { said: said_of_call(admitted), tables });
     }
     answers
 }

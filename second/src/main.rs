@@ -44,6 +44,7 @@ mod generate;
 mod halls;
 mod histogram;
 mod histogram_book;
+mod histogram_trolley;
 mod histogram_write;
 mod job;
 mod least_cases;
@@ -56,6 +57,7 @@ mod lent_lengths;
 mod lent_plan;
 mod lent_read;
 mod lent_texts;
+mod lent_trolley;
 mod lent_write;
 mod limit_size;
 mod limits;
@@ -75,6 +77,7 @@ mod rule;
 mod safe;
 mod safe_book;
 mod safe_print;
+mod safe_read;
 mod safe_ticks;
 mod selftest;
 mod selftest_book;
@@ -84,6 +87,7 @@ mod selftest_dwell;
 mod selftest_lent;
 mod selftest_refusals;
 mod selftest_shared;
+mod selftest_trolley;
 mod selftest_write;
 mod shortest;
 mod small;
@@ -91,6 +95,15 @@ mod small_closed;
 mod systematic;
 mod text;
 mod trains;
+mod trolley;
+mod trolley_cases;
+mod trolley_checks;
+mod trolley_days;
+mod trolley_lists;
+mod trolley_make;
+mod trolley_random;
+mod trolley_site;
+mod trolley_slots;
 mod write;
 mod write_cases;
 mod write_faults;
@@ -99,7 +112,7 @@ mod write_jobs;
 use commands::{
     admissions_command, again_command, answer_command, carriers_command, compare_command,
     generate_command, halves_command, limit_command, plan_command, safe_command, selftest_command,
-    show_command, texts_command,
+    show_command, texts_command, trolleys_command,
 };
 use std::process::ExitCode;
 
@@ -114,6 +127,8 @@ const USAGE: &str = "usage:
                                     write a batch of admissions to a floor book
   second carriers HALL HELD STARTS COUNT FILE
                                     write a batch that plans the carriers of that book
+  second trolleys HALL HELD MOVES ONE AGAIN COUNT FILE
+                                    write a batch of trolleys, or of their moves one by one
   second halves FILE ONE TWO        write the cases of a batch to two, by turns
   second safe FILE                  try all paths of small plans of a batch
   second compare FILE ANSWERS       hold another program's answers to these
@@ -140,6 +155,9 @@ fn main() -> ExitCode {
         }
         ["carriers", hall, held, starts, count, path] => {
             carriers_command([hall, held, starts, count], path)
+        }
+        ["trolleys", hall, held, moves, one, again, count, path] => {
+            trolleys_command([hall, held, moves, one, again, count], path)
         }
         ["halves", path, one, two] => halves_command(path, one, two),
         ["safe", path] => safe_command(path),

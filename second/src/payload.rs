@@ -1,11 +1,13 @@
 // What payloads are made of: numbers of two or four bytes, lowest byte first,
-// lists, jobs from numbers, and floor books with calls. Each has a function that
-// puts it and one that takes it, and a payload that ends within a part is an error.
+// lists, jobs from numbers, and floor books with calls or arrivals. Each has a
+// function that puts it and one that takes it, and a payload that ends within a part
+// is an error.
 
 use crate::book::{Admissions, Book, Call, Slot};
 use crate::job::{Hall, Move};
 use crate::lent::{Columns, RECORD_PLACES};
 use crate::lent_jobs::{Listed, Recorded};
+use crate::trolley::{Arrival, Arrivals};
 
 pub fn put_long(out: &mut Vec<u8>, number: u32) {
     out.extend(number.to_le_bytes());
@@ -39,17 +41,31 @@ pub fn put_recorded(out: &mut Vec<u8>, job: &Recorded) {
     }
 }
 
-/// A book and the calls to it; their network stands before them.
-pub fn put_admissions(out: &mut Vec<u8>, asked: &Admissions) {
-    put_long(out, asked.book.clock);
-    put_long(out, asked.book.dwell);
-    for slot in &asked.book.slots {
+fn put_book(out: &mut Vec<u8>, book: &Book) {
+    put_long(out, book.clock);
+    put_long(out, book.dwell);
+    for slot in &book.slots {
         put_shorts(out, &[slot.start, slot.goal, slot.distance]);
         put_long(out, slot.tick);
     }
+}
+
+/// A book and the calls to it; their network stands before them.
+pub fn put_admissions(out: &mut Vec<u8>, asked: &Admissions) {
+    put_book(out, &asked.book);
     for call in &asked.calls {
         put_long(out, call.now);
         put_shorts(out, &[call.asked.start, call.asked.goal]);
+    }
+}
+
+/// A book and what comes to it.
+pub fn put_arrivals(out: &mut Vec<u8>, asked: &Arrivals) {
+    put_book(out, &asked.book);
+    for arrival in &asked.arrivals {
+        put_long(out, arrival.now);
+        put_shorts(out, &[arrival.room]);
+        put_list(out, &arrival.numbers);
     }
 }
 
@@ -125,6 +141,25 @@ impl<'a> Rest<'a> {
         let book = self.book()?;
         let calls: Result<Vec<Call>, String> = (0..count).map(|_| self.call()).collect();
         Ok(Admissions { hall, book, calls: calls? })
+    }
+
+    /// Moves that come one by one are one at least.
+    fn arrival(&mut self) -> Result<Arrival, String> {
+        let arrival = Arrival { now: self.long()?, room: self.short()?, numbers: self.list()? };
+        if !arrival.is_trolley() && arrival.calls().is_empty() {
+            return Err("an arrival without a move".to_string());
+        }
+        Ok(arrival)
+    }
+
+    /// A book and so many arrivals, one at least.
+    pub fn arrivals(&mut self, count: u16, hall: Hall) -> Result<Arrivals, String> {
+        if count == 0 {
+            return Err("a book without an arrival".to_string());
+        }
+        let book = self.book()?;
+        let arrivals: Result<Vec<Arrival>, String> = (0..count).map(|_| self.arrival()).collect();
+        Ok(Arrivals { hall, book, arrivals: arrivals? })
     }
 
     /// The job text is whatever the payload still holds.

@@ -1,16 +1,16 @@
 // The check of days, in the way of plans (safe.rs): a floor book that came empty,
-// with a dwell of at most 255, and what was answered to each call, taken from the
-// print. Any two carriers that were ever admitted are tried with every choice of
-// their shortest paths, save those that are never on the floor at the same tick,
-// who cannot meet. Each start tick is held to all carriers before it, whether they
-// are gone or not. Bounds and slots are checked in halls of any size.
+// with a dwell of at most 255, and what was answered to each call and each trolley,
+// taken from the print (safe_read.rs). Any two carriers that were ever admitted are
+// tried with every choice of their shortest paths, save those that are never on the
+// floor at the same tick, who cannot meet. Each start tick is held to all carriers
+// before it, whether they are gone or not. Bounds and slots are checked in halls of
+// any size.
 
-use crate::answers::printed_to;
 use crate::batch::Case;
-use crate::book::{Admissions, Book, SLOTS};
-use crate::floor::Floor;
-use crate::job::{Job, Move, MOST_DWELL};
+use crate::book::{Book, SLOTS};
+use crate::job::{Job, MOST_DWELL};
 use crate::safe::{try_all, MOST_PATH_PAIRS, SMALL_HALL};
+use crate::safe_read::{admitted_in, Carrier, Checked};
 use crate::safe_ticks::forbidden;
 use crate::shortest::{all_distances, all_paths, count_paths, some_choice_collides, AllDistances};
 use std::collections::BTreeMap;
@@ -18,6 +18,8 @@ use std::collections::BTreeMap;
 #[derive(Default)]
 pub struct Days {
     days: u64,
+    /// Days with trolleys among all of them.
+    trolleys: u64,
     /// Days in larger halls, of which bounds and slots alone are checked.
     large: u64,
     carriers: u64,
@@ -28,58 +30,50 @@ pub struct Days {
     skipped: u64,
 }
 
-/// A carrier that was admitted.
-struct Carrier {
-    asked: Move,
-    now: i64,
-    tick: i64,
-    last_tick: i64,
-    slot: usize,
-}
-
-type Checked = Result<(), &'static str>;
-
 impl Days {
     pub fn printed(&self) -> String {
         format!(
             "safe: {} days of a floor book with {} carriers; {} pairs of carriers, {} of them on \
              the floor together, {} path pairs tried, {} skipped; in {} larger halls bounds and \
-             slots alone\n",
+             slots alone; {} of all these days have trolleys\n",
             self.days,
             self.carriers,
             self.pairs,
             self.together,
             self.tried,
             self.skipped,
-            self.large
+            self.large,
+            self.trolleys
         )
     }
 
     /// Checks a case if it is a day on which somebody was admitted.
     pub fn check(&mut self, case: &Case) -> Checked {
-        let asked = match case {
-            Case::Admit { asked, .. } => asked,
+        let (hall, book) = match case {
+            Case::Admit { asked, .. } => (&asked.hall, &asked.book),
+            Case::AdmitAll { asked, .. } => (&asked.hall, &asked.book),
             _ => return Ok(()),
         };
-        let dwell = asked.book.dwell;
-        if dwell > MOST_DWELL || asked.book != Book::empty(dwell) {
+        let dwell = book.dwell;
+        if dwell > MOST_DWELL || *book != Book::empty(dwell) {
             return Ok(());
         }
-        let admitted = read_answers(&printed_to(case), asked)?;
+        let admitted = admitted_in(case)?;
         if admitted.is_empty() {
             return Ok(());
         }
+        self.trolleys += u64::from(matches!(case, Case::AdmitAll { .. }));
         check_bounds(&admitted)?;
         check_slots(&admitted)?;
-        if asked.hall.nodes > SMALL_HALL {
+        if hall.nodes > SMALL_HALL {
             self.large += 1;
             return Ok(());
         }
         self.days += 1;
         self.carriers += admitted.len() as u64;
-        let table = all_distances(&asked.hall);
+        let table = all_distances(hall);
         let moves = admitted.iter().map(|carrier| carrier.asked).collect();
-        let job = Job { hall: asked.hall.clone(), moves, order: Vec::new(), dwell };
+        let job = Job { hall: hall.clone(), moves, order: Vec::new(), dwell };
         check_ticks(&table, &job, &admitted)?;
         self.check_paths(&table, &job, &admitted)
     }
@@ -119,34 +113,6 @@ impl Days {
             }
         }
         Ok(())
-    }
-}
-
-/// The carriers that were admitted, from the print. Of a day no call is refused
-/// with 16 or 17.
-fn read_answers(print: &str, asked: &Admissions) -> Result<Vec<Carrier>, &'static str> {
-    let mut lines = print.lines().filter(|line| !line.starts_with("book "));
-    let mut floor = None;
-    let mut admitted = Vec::new();
-    for call in &asked.calls {
-        let words: Vec<&str> = lines.next().unwrap_or("").split(' ').collect();
-        let numbers: Vec<i64> = words[1..].iter().filter_map(|word| word.parse().ok()).collect();
-        let (tick, slot) = match (words[0], &numbers[..]) {
-            ("STARTS", [tick, slot]) => (*tick, *slot as usize),
-            ("REFUSED", [16 | 17, _]) => return Err("a day is refused with 16 or 17"),
-            ("REFUSED", [_, _]) => continue,
-            _ => return Err("the print has not the form of an answer to each call"),
-        };
-        let floor = floor.get_or_insert_with(|| Floor::of(&asked.hall));
-        let distance = floor.distance(call.asked.start, call.asked.goal);
-        let distance = distance.ok_or("a carrier without a walk was admitted")?;
-        let last_tick = tick + distance + i64::from(asked.book.dwell);
-        let now = call.now.into();
-        admitted.push(Carrier { asked: call.asked, now, tick, last_tick, slot });
-    }
-    match lines.next() {
-        None => Ok(admitted),
-        Some(_) => Err("the print has more answers than there are calls"),
     }
 }
 

@@ -13,6 +13,7 @@ use crate::lent_jobs::{Listed, Record, Recorded};
 use crate::page;
 use crate::questions::every_question;
 use crate::selftest::Checks;
+use crate::trolley_random::random_trolleys;
 use crate::write_jobs::as_text;
 
 fn hall() -> Hall {
@@ -73,6 +74,7 @@ fn there_and_back(checks: &mut Checks) {
     cases.push(as_text(&page::printed_job()));
     cases.extend(every_question(&mut dice, &page::printed_job()));
     cases.extend(random_books(&mut dice, 40));
+    cases.extend(random_trolleys(&mut dice, 40));
     let has = |kind: &&u8| cases.iter().any(|case| case.kind() == **kind);
     checks.same("every kind", KINDS.iter().filter(has).count(), KINDS.len());
     let mut file = Vec::new();
@@ -89,6 +91,7 @@ fn broken(checks: &mut Checks) {
     let mut dice = Dice::new(9);
     let mut whole = every_question(&mut dice, &page::printed_job());
     whole.extend(random_books(&mut dice, 3));
+    whole.extend(random_trolleys(&mut dice, 3));
     for case in &whole {
         let (kind, payload) = (case.kind(), case.payload());
         let is_read = |payload: &[u8]| cases_of(&file_of(kind, payload)).is_ok();

@@ -6,7 +6,7 @@
 --     pair-once        two carriers have one pair of distances
 --     true-smallest    the tick by the rows is the one that an admission gets
 --     tick-fits        and it has 32 bits
-use mathlib.Core.Path.{_≡_, refl, sym, ap, subst}
+use mathlib.Core.Path.{_≡_, refl, ap, subst}
 use mathlib.Core.Logic.{_⊎_, inl, inr, _≢_}
 use mathlib.Core.List.{List}
 use Prim.Native.Nat.{ℕ, _+_, _≤_, _<_}
@@ -41,7 +41,7 @@ use Rattle.admission.specs.Refusals.{Stale, other-distance, Full}
 use Rattle.admission.specs.Questions.{staleChecks, callQuestion, admissionQuestion}
 use Rattle.admission.specs.Admission.{PermitsOne, PermittedHeld, carrierOf, Admission}
 use Rattle.admission.specs.Admission.{saidAnswer}
-use Rattle.admission.specs.Steps.{startsFor, pairFor, OnRows, TickFor, RowsFrom}
+use Rattle.admission.specs.Steps.{startsFor, pairFor, OnRows, TickFor, RowsFrom, Settles}
 use Rattle.slots.proofs.Slots.{is-free-dec, free-test, taken-test, forgetting-length, kept-or-free, still-held, held-still}
 use Rattle.admission.proofs.StaleSlots.{sound-number}
 use Rattle.admission.proofs.SoundCall.{walk-there, book-sound, not-beyond, move-clear, none-stale, call-tells}
@@ -197,8 +197,8 @@ module _ (N : Network) (b : Book) (now s g : ℕ) (size : length (b .slots) ≡ 
 
 module _ (N : Network) (b : Book) (now s g : ℕ) where
   pub refuses : {r : Stepped} (f : Refusal) → r ≡ record { answer = Refused f; book = b } → First (admissionQuestion N b now s g) (numberOf (f .fault)) (f .place)
-      → Admission N b now s g (saidAnswer (r .answer)) (r .book)
-  refuses f e h = rw e (record { fits = h; outcome = refl })
+      → Admission N b now s g (saidAnswer (r .answer)) (r .book) × Settles N now (saidAnswer (r .answer)) (r .book)
+  refuses f e h = rw e (record { fits = h; outcome = refl }, tt)
 
   module _ (size : length (b .slots) ≡ slotCount) (sound : None (callQuestion N b now s g)) where
     pub no-slot : ((j : ℕ) → j < slotCount → slotAt (forgetting (b .dwell) now (b .slots)) j ≢ free) → First (admissionQuestion N b now s g) 15 0

@@ -1,28 +1,43 @@
--- An accepted admission leaves a sound book, whatever sound book it was called with: the new carrier's start
--- tick is at most 163,648 ticks after now, so below 4,000,200,000, and whoever is held beside it was sound
--- before. Assumes nothing.
+-- What an accepted admission settles for the next call at the same clock on the same network. It leaves a
+-- sound book, whatever sound book it was called with: the new carrier's start tick is at most 163,648 ticks
+-- after now, so below 4,000,200,000, and whoever is held beside it was sound before. The new carrier has its
+-- true distance, and of the others none was stale. So 16, 14, the network's checks and 17 pass again. Assumes
+-- nothing.
 --     admitted-sound   the book that is left is not damaged (rule 8.16)
+--     settled-then     all that is asked of the book, the clock and the network passes
+--     settled-judged   where it does, what a check answers about the move is what it answers about the call
 use mathlib.Core.Path.{_≡_, refl, _∙_}
 use mathlib.Core.Logic.{_⊎_, inl, inr}
-use mathlib.Core.List.{List}
+use mathlib.Core.List.{List, [], _∷_, _++_}
 use Prim.Native.Nat.{ℕ, _≤_}
+use native.Mathlib.Nat.{le-refl}
 use native.Mathlib.Omega.{arith}
 use lib.ListN.{length, set}
-use Rattle.hall.specs.Floor.{Network}
-use Rattle.hall.specs.Questions.{ends}
-use Rattle.hall.specs.Said.{accepted}
+use Rattle.hall.specs.declared.Fault.the-variants.{Unreachable}
+use Rattle.hall.specs.declared.Checked.{Checked}
+use Rattle.hall.specs.declared.Checked.the-variants.{Sound, Refused}
+use Rattle.hall.specs.Floor.{Dist, NoWalk, Network, floor}
+use Rattle.hall.specs.Stages.{asked, only-at}
+use Rattle.hall.specs.Questions.{ends, networkQuestion, moveEnds, moveQuestion}
+use Rattle.hall.specs.Said.{accepted, Judged}
+use Rattle.hall.proofs.Compose.{none-at-all, none-split, none-append, first-before, judged-after}
+use Rattle.hall.proofs.Places.{asked-clear, loop-ends}
 use Rattle.slots.specs.declared.Slot.{Slot}
 use Rattle.slots.specs.declared.Book.{Book}
 use Rattle.admission.specs.declared.Entry.{Entry}
 use Rattle.slots.specs.Record.{slotCount, slotAt, Held, forgetting, bookWith}
 use Rattle.slots.specs.Refusals.{BadSlot, far-start, far-goal, same-ends, no-distance}
 use Rattle.slots.specs.Refusals.{far-distance, late-start, SomeBadSlot, Damaged, late-clock, long-dwell}
-use Rattle.slots.specs.Refusals.{bad-slot}
+use Rattle.slots.specs.Refusals.{bad-slot, OffTime}
+use Rattle.slots.specs.Questions.{bookQuestion}
+use Rattle.admission.specs.Questions.{staleChecks, staleSlots, callQuestion}
 use Rattle.admission.specs.Admission.{carrierOf, Admission}
+use Rattle.admission.specs.Steps.{Settled}
 use Rattle.slots.proofs.Slots.{forgetting-length, still-held, new-or-held}
 use Rattle.network.proofs.SoundMove.{MoveSound}
-use Rattle.admission.proofs.SoundCall.{book-sound, not-beyond, call-tells}
-use Rattle.admission.proofs.Admitting.{dwell-small}
+use Rattle.admission.proofs.StaleSlots.{true-fresh}
+use Rattle.admission.proofs.SoundCall.{book-sound, not-beyond, move-clear, call-tells}
+use Rattle.admission.proofs.Admitting.{true-held, dwell-small}
 use Rattle.admission.proofs.Took.{apart-one, Took, took}
 use Rattle.admission.proofs.Pairs.{distance-few, tick-near}
 
@@ -61,7 +76,43 @@ module _ (N : Network) (w : ℕ) {b left : Book} {now s g x d : ℕ} (same : b .
       book-left (long-dwell l) = let h : w ≤ 255 = rw same at (dwell-small b size (book-sound N b now s g (a .sound))) in omega arith
       book-left (bad-slot k) = slots-sound k
 
+  -- ---- whoever is held then has its true distance
+
+  true-then : (i : ℕ) → Held (set kept (a .slot) new) i → Dist (floor N) (slotAt (set kept (a .slot) new) i .start) (slotAt (set kept (a .slot) new) i .goal) (slotAt (set kept (a .slot) new) i .distance)
+  true-then i h = cases (new-or-held kept (forgetting-length w now (b .slots) ∙ size) (a .slot) (a .takes) new (a .taken) i h)
+    where
+      was-true : (j : ℕ) → Held kept j → Dist (floor N) (slotAt kept j .start) (slotAt kept j .goal) (slotAt kept j .distance)
+      was-true = rw same at (true-held N b now s g size (a .sound))
+
+      cases : (slotAt (set kept (a .slot) new) i ≡ new) ⊎ (Held kept i × (slotAt (set kept (a .slot) new) i ≡ slotAt kept i))
+          → Dist (floor N) (slotAt (set kept (a .slot) new) i .start) (slotAt (set kept (a .slot) new) i .goal) (slotAt (set kept (a .slot) new) i .distance)
+      cases (inl e) = rw e (a .own)
+      cases (inr k) = rw (k .1) (was-true i (k .0))
+
+  pub took-settled : Settled N left now
+  took-settled = record {
+    of-book = asked-clear took-sound (asked-clear (rw (a .left-is) not-off) none-at-all);
+    of-network = none-split (networkQuestion N) (only-at 0 (ends (N .nodes) (N .closed) (λ i. s) (λ i. g)))
+        (none-split (moveEnds N s g) (asked Unreachable 0 (NoWalk (floor N) s g) ∷ []) (move-clear N b now s g (a .sound)) .0) .0;
+    of-slots = rw (a .left-is) (loop-ends {s = staleChecks N w now (set kept (a .slot) new)} (record { clear = λ i l. (true-fresh N w now (set kept (a .slot) new) i (λ h. true-then i (h .held)), tt) }) (le-refl slotCount));
+  }
+    where
+      not-off : ¬ OffTime (bookWith now w (set kept (a .slot) new)) now
+      not-off (inl l) = omega arith
+      not-off (inr l) = omega (arith, not-beyond N b now s g (a .sound))
+
 -- whatever sound book an accepted call came with
 module _ (N : Network) {b left : Book} {now s g : ℕ} {e : Entry} (size : length (b .slots) ≡ slotCount) (a : Admission N b now s g (accepted e) left) where
   pub admitted-sound : ¬ Damaged left
   admitted-sound = took-sound N (b .dwell) refl size (took N (b .dwell) refl a)
+
+  pub settled-then : Settled N left now
+  settled-then = took-settled N (b .dwell) refl size (took N (b .dwell) refl a)
+
+-- the rest of the question lies before the move and behind it, and passes
+pub settled-judged : (N : Network) (b : Book) (t s g : ℕ) → Settled N b t → (r : Checked) → Judged (moveQuestion N s g) r → Judged (callQuestion N b t s g) r
+settled-judged N b t s g known r h = judged-after (bookQuestion b t) (moveQuestion N s g ++ (staleSlots N (b .dwell) t (b .slots) ∷ [])) (known .of-book) r (behind r h)
+  where
+    behind : (r : Checked) → Judged (moveQuestion N s g) r → Judged (moveQuestion N s g ++ (staleSlots N (b .dwell) t (b .slots) ∷ [])) r
+    behind Sound k = none-append k (known .of-slots)
+    behind (Refused f) k = first-before (staleSlots N (b .dwell) t (b .slots) ∷ []) k

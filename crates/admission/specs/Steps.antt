@@ -1,4 +1,4 @@
--- What the functions of an admission promise one another. No public question cites them.
+-- What the functions of an admission and of a trolley promise one another. No public question cites them.
 --     StaleAt          17 of one slot: it holds a carrier whose last tick is t or later, and whose distance
 --                      on the network is not the one held
 --     StandsFrom       a slot with this start holds a carrier whose last tick is t or later
@@ -15,27 +15,37 @@
 --     pairFor          the pair of a slot and a move, by the rows from the move's start and from its goal
 --     OnRows           the ends of every slot have a place in a row
 --     TickFor          the smallest tick from a given one up that the pairs of all slots permit
+--     Settled          what is asked of a book, a clock value and a network passes, whatever the move: 16,
+--                      14, the network's checks and 17
+--     Settles          so it does for the next call, at the same clock value on the same network, where an
+--                      admission is accepted
 --     RowsFrom         the rows have the distances from the start and from the goal of a move
 --     Reached          the checks of a network and a move, and the rows that they leave where none holds
 --     Called           the checks of a call, and the rows that they leave where none holds
+--     Riding           the moves of a trolley: the start ticks of those admitted stand in front of the list,
+--                      and the rest of it is as it came
 use mathlib.Core.Path.{_≡_}
 use mathlib.Core.Logic.{_≢_}
 use mathlib.Core.Bool.{Bool, true, false}
-use mathlib.Core.List.{List}
+use mathlib.Core.List.{List, [], _∷_, _++_}
 use Prim.Native.Nat.{ℕ, _≤_, _<_}
-use lib.ListN.{getD}
+use lib.ListN.{length, getD, drop}
 use Rattle.hall.specs.declared.Checked.{Checked}
 use Rattle.hall.specs.declared.Checked.the-variants.{Sound}
 use Rattle.hall.specs.Limits.{nodeLimit, noWalkMark}
 use Rattle.hall.specs.Floor.{Dist, DistanceIs, Network, floor}
 use Rattle.hall.specs.Rule.{Pair, pair6}
 use Rattle.hall.specs.Ticks.{SmallestFrom, PermittedBy}
-use Rattle.hall.specs.Said.{Judged}
-use Rattle.hall.specs.Questions.{moveQuestion}
+use Rattle.hall.specs.Stages.{None}
+use Rattle.hall.specs.Said.{Said, accepted, refused, Judged}
+use Rattle.hall.specs.Questions.{networkQuestion, moveQuestion}
 use Rattle.slots.specs.declared.Slot.{Slot}
 use Rattle.slots.specs.declared.Book.{Book}
 use Rattle.slots.specs.Record.{slotCount, isFree, slotAt, StandsAt}
-use Rattle.admission.specs.Questions.{callQuestion}
+use Rattle.slots.specs.Questions.{bookQuestion}
+use Rattle.admission.specs.declared.Entry.{Entry}
+use Rattle.admission.specs.Questions.{staleSlots, callQuestion}
+use Rattle.admission.specs.Trolley.{Ending, Rides}
 
 -- ---- 17
 
@@ -100,6 +110,15 @@ TickFor outward inward own w from slots =
 
 -- ---- the checks
 
+pub record Settled (N : Network) (b : Book) (t : ℕ) : Type 0 where
+  pub of-book : None (bookQuestion b t)
+  pub of-network : None (networkQuestion N)
+  pub of-slots : None (staleSlots N (b .dwell) t (b .slots) ∷ [])
+
+abbrev pub Settles : Network → (now : ℕ) → Said Entry → Book → Type 0
+Settles N now (accepted e) left = Settled N left now
+Settles N now (refused n p) left = Unit
+
 pub record RowsFrom (N : Network) (s g : ℕ) (outward inward : List ℕ) : Type 0 where
   pub of-start : (v : ℕ) → v < N .nodes → DistanceIs (floor N) s v (getD outward v 0)
   pub of-goal : (v : ℕ) → v < N .nodes → DistanceIs (floor N) g v (getD inward v 0)
@@ -111,3 +130,11 @@ pub record Reached (N : Network) (s g : ℕ) (outward inward : List ℕ) (r : Ch
 pub record Called (N : Network) (b : Book) (t s g : ℕ) (outward inward : List ℕ) (r : Checked) : Type 0 where
   pub judged : Judged (callQuestion N b t s g) r
   pub rows : r ≡ Sound → RowsFrom N s g outward inward
+
+-- ---- the trolley
+
+pub record Riding (N : Network) (b : Book) (now : ℕ) (moves ticks : List ℕ) (end : Ending) (left : Book)
+    (ticks′ : List ℕ) : Type 0 where
+  pub starts : List ℕ
+  pub rides : Rides N b now moves end starts left
+  pub written : ticks′ ≡ starts ++ drop (length starts) ticks

@@ -1,33 +1,35 @@
 // One admission to the floor book (rules 13.4 to 13.8), as a step from a book to a book by value. Every book,
 // clock value, network and move may be put. What is at fault is refused with its number, and the book that is
-// answered is then the one that came. The record as it is lent is in the crate `book`.
+// answered is then the one that came. A trolley of them is in trolley.rt, and the record as it is lent in the
+// crate `book`.
 //
 // Cost of an admission: two distance walks for the move, whose rows have its distances to and from every
 // carrier held, and for 17 one walk for each different start of the carriers that are judged (stale.rt).
 // Working memory: three rows of 1,024 distances and the held list of `rule`, 7,936 bytes, and beside them
 // copies of the book, of 776 bytes each.
+mod checks;
 mod stale;
 mod tick;
+pub mod trolley;
 
+use crate::checks::check_known;
 use hall::Checked;
 use hall::Fault;
 use hall::Job;
 use hall::Refusal;
-use network::checks::check_move;
 use slots::Book;
 use slots::Slot;
-use slots::check_book;
 use slots::forget;
 use slots::lowest_free;
 ghost use mathlib.Core.Path.{_≡_};
+ghost use mathlib.Core.Bool.{true};
 ghost use Prim.Native.Nat.{_<_};
-ghost use lib.ListN.{length, set};
+ghost use lib.ListN.{set};
 ghost use denote.Ref.{now};
-ghost use Rattle.hall.specs.Limits.{nodeLimit};
 ghost use Rattle.hall.specs.Floor.{networkOf};
 ghost use Rattle.slots.specs.Record.{slotCount, bookWith};
 ghost use Rattle.admission.specs.Admission.{Admission, saidAnswer};
-ghost use Rattle.admission.specs.Steps.{Reached, Called};
+ghost use Rattle.admission.specs.Steps.{Settled, Settles};
 
 // A carrier that is admitted: its start tick, and the slot that it takes.
 pub struct Entry {
@@ -45,71 +47,6 @@ pub enum Answer {
 pub struct Stepped {
     pub answer: Answer,
     pub book: Book,
-}
-
-// The checks of the network and the move: 2, 3, 12, 4, 5, 13 and 8. Where none holds, the rows have the
-// distances from the start and from the goal.
-fn check_reached(
-    nodes: usize,
-    lanes: &[u16],
-    closed: &[u16],
-    start: u16,
-    goal: u16,
-    outward: &mut [u16],
-    inward: &mut [u16],
-) -> Checked
-    requires { ⌜ (length (now outward) ≡ nodeLimit) × (length (now inward) ≡ nodeLimit) ⌝ }
-    ensures { λ r. ⌜ Reached
-        (networkOf nodes (now (lanes .entry)) (now (closed .entry)))
-        start goal
-        (now (outward .exit)) (now (inward .exit))
-        r ⌝ }
-{
-    let checked = check_move(nodes, lanes, closed, start, goal);
-    if let Checked::Refused(_) = checked {
-        return checked;
-    }
-    walk::distances(nodes, lanes, closed, start, outward);
-    walk::distances(nodes, lanes, closed, goal, inward);
-    let here = goal as usize;
-    let distance = outward[here];
-    if distance == Job::NO_WALK {
-        return Checked::Refused(Refusal::new(Fault::Unreachable, 0));
-    }
-    Checked::Sound
-}
-
-// The checks of a call with a book, a clock value and a move: 16, 14, those of the network and the move, 17.
-// Where none holds, the rows have the distances from the start and from the goal.
-fn check_call(
-    book: Book,
-    t: u32,
-    nodes: usize,
-    lanes: &[u16],
-    closed: &[u16],
-    start: u16,
-    goal: u16,
-    outward: &mut [u16],
-    inward: &mut [u16],
-) -> Checked
-    requires { ⌜ (length (now outward) ≡ nodeLimit) × (length (now inward) ≡ nodeLimit) ⌝ }
-    ensures { λ r. ⌜ Called
-        (networkOf nodes (now (lanes .entry)) (now (closed .entry)))
-        book t start goal
-        (now (outward .exit)) (now (inward .exit))
-        r ⌝ }
-{
-    let slots = book.slots;
-    let dwell = book.dwell;
-    let sound = check_book(book, t);
-    if let Checked::Refused(_) = sound {
-        return sound;
-    }
-    let reached = check_reached(nodes, lanes, closed, start, goal, outward, inward);
-    if let Checked::Refused(_) = reached {
-        return reached;
-    }
-    stale::check_held(nodes, lanes, closed, slots, dwell, t)
 }
 
 // The answer that refuses, with the book as it came.
@@ -150,7 +87,10 @@ fn entered(
 }
 
 // An admission at the clock value `clock`, which the rules call now: in a contract `now` is what is lent.
-pub fn admit_step(
+// Where `known`, all that is asked of the book, the clock and the network is known to pass, as it is after an
+// accepted admission at the same clock on the same network, and only the move is asked about.
+pub(crate) fn admit_known(
+    known: bool,
     book: Book,
     clock: u32,
     nodes: usize,
@@ -159,14 +99,20 @@ pub fn admit_step(
     start: u16,
     goal: u16,
 ) -> Stepped
+    requires { ⌜ (known ≡ true → Settled (networkOf nodes (now lanes) (now closed)) book clock) ⌝ }
     ensures { λ r. ⌜ Admission
         (networkOf nodes (now (lanes .entry)) (now (closed .entry)))
         book clock start goal
+        (saidAnswer (r .answer)) (r .book)
+        × Settles
+        (networkOf nodes (now (lanes .entry)) (now (closed .entry)))
+        clock
         (saidAnswer (r .answer)) (r .book) ⌝ }
 {
     let mut outward: [u16; Job::NODES] = [0; Job::NODES];
     let mut inward: [u16; Job::NODES] = [0; Job::NODES];
-    let checked = check_call(
+    let checked = check_known(
+        known,
         book,
         clock,
         nodes,
@@ -197,4 +143,22 @@ pub fn admit_step(
         tick: tick,
     };
     entered(clock, dwell, left, place, carrier)
+}
+
+// An admission of which nothing is known.
+pub fn admit_step(
+    book: Book,
+    clock: u32,
+    nodes: usize,
+    lanes: &[u16],
+    closed: &[u16],
+    start: u16,
+    goal: u16,
+) -> Stepped
+    ensures { λ r. ⌜ Admission
+        (networkOf nodes (now (lanes .entry)) (now (closed .entry)))
+        book clock start goal
+        (saidAnswer (r .answer)) (r .book) ⌝ }
+{
+    admit_known(false, book, clock, nodes, lanes, closed, start, goal)
 }

@@ -2,4 +2,6 @@
 pub mod Days
 pub mod Apart
 pub mod Never
+pub mod Trolleys
+pub mod Later
 pub mod Theorems

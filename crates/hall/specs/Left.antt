@@ -1,4 +1,4 @@
--- What is left in a lent table (rules 9.1 to 9.6, 9.9, 9.11, 9.13 and 9.14).
+-- What is left in a lent table (rules 9.1 to 9.6, 9.9, 9.11 and 9.13 to 9.15).
 --     zeroed n t     the table t with its first n places zero, all of them where it is shorter; beyond it is
 --                    as it came
 --     filled         numbers in front of a table, zeros behind them up to its least length, and beyond it

@@ -13,7 +13,7 @@ use Rattle.hall.specs.Job.{Numbers}
 use Rattle.hall.specs.Rule.{Answers}
 use Rattle.hall.specs.Stages.{Question, only-at}
 use Rattle.hall.specs.Said.{Judged}
-use Rattle.hall.specs.Questions.{counts, eachLane, eachClosed, eachMove, eachOrderPlace}
+use Rattle.hall.specs.Questions.{counts, ends, eachLane, eachClosed, eachMove, eachOrderPlace}
 use Rattle.hall.specs.Questions.{networkQuestion, movesQuestion, checksQuestion, moveEnds}
 use Rattle.hall.proofs.Stages.{judged-unique}
 use Rattle.hall.proofs.Answers.{answers-unique}
@@ -38,6 +38,10 @@ is-closed-unique closed node = answers-unique (Closed closed node)
 pub check-closed-node-unique : (nodes : ℕ) (closed : List ℕ) (k : ℕ) →
     OneAnswer (only-at k (eachClosed nodes closed))
 check-closed-node-unique nodes closed k = judged-unique (only-at k (eachClosed nodes closed))
+
+pub check-ends-unique : (nodes : ℕ) (closed : List ℕ) (start goal i : ℕ) →
+    OneAnswer (only-at i (ends nodes closed (λ p. start) (λ p. goal)))
+check-ends-unique nodes closed start goal i = judged-unique (only-at i (ends nodes closed (λ p. start) (λ p. goal)))
 
 pub check-entry-unique : (nodes : ℕ) (closed moves : List ℕ) (i : ℕ) →
     OneAnswer (only-at i (eachMove nodes closed moves))

@@ -88,7 +88,7 @@ pub(crate) fn number_at(list: &[u16], at: usize) -> u16
 
 // 4, 5 and 13, of one move at the place i: its ends are nodes, differ and are not closed. `fault` is the one
 // that is looked for.
-fn check_ends(nodes: usize, closed: &[u16], start: u16, goal: u16, i: usize) -> Checked
+pub fn check_ends(nodes: usize, closed: &[u16], start: u16, goal: u16, i: usize) -> Checked
     ensures { λ r. ⌜ Judged (only-at i (ends nodes (now (closed .entry)) (λ p. start) (λ p. goal))) r ⌝ }
 {
     let mut fault = Fault::NoNode;

@@ -19,7 +19,7 @@ use try_book::admit_lent;
 // What a payload has of a slot, of a book and of a call.
 const SLOT_BYTES: usize = 10;
 
-const BOOK_BYTES: usize = 648;
+pub(crate) const BOOK_BYTES: usize = 648;
 
 const CALL_BYTES: usize = 8;
 
@@ -34,7 +34,7 @@ fn slot_at(s: &[u8], at: usize) -> Slot {
 }
 
 // The book at the front of a payload: its clock, its dwell and its slots.
-fn book_at(s: &[u8]) -> Book {
+pub(crate) fn book_at(s: &[u8]) -> Book {
     let free = Slot::free();
     let mut slots = [free; Book::SLOTS];
     let mut i: usize = 0;
@@ -47,7 +47,7 @@ fn book_at(s: &[u8]) -> Book {
 
 // The numbers of a book, in the order in which a payload has them. The slots come by themselves, since of an
 // array that lies in a struct a function does not know the length.
-fn print_book(clock: u32, dwell: u32, slots: [Slot; Book::SLOTS]) {
+pub(crate) fn print_book(clock: u32, dwell: u32, slots: [Slot; Book::SLOTS]) {
     let mut numbers = [0u32; 258];
     numbers[0] = clock;
     numbers[1] = dwell;
@@ -77,10 +77,16 @@ fn print_answer(answer: Answer) {
 
 // One call: its answer is printed, and what it leaves is the result. Further calls on the same book have the
 // same answer, and nothing of them is kept.
-fn call(further: u16, s: &[u8], nodes: usize, lanes: &[u16], closed: &[u16], book: Book) -> Book {
-    let clock = long_at(s, 0);
-    let start = short_at(s, 4);
-    let goal = short_at(s, 6);
+pub(crate) fn call(
+    further: u16,
+    clock: u32,
+    start: u16,
+    goal: u16,
+    nodes: usize,
+    lanes: &[u16],
+    closed: &[u16],
+    book: Book,
+) -> Book {
     let mut i: u16 = 0;
     while i < further {
         admit_lent(book, clock, nodes, lanes, closed, start, goal);
@@ -106,7 +112,16 @@ fn call_all(s: &[u8], calls: &[u8], nodes: usize, lanes: &[u16], closed: &[u16],
             print_book(held.clock, held.dwell, slots);
         }
         let from = rest(calls, CALL_BYTES * i as usize);
-        held = call(further, from, nodes, lanes, closed, held);
+        held = call(
+            further,
+            long_at(from, 0),
+            short_at(from, 4),
+            short_at(from, 6),
+            nodes,
+            lanes,
+            closed,
+            held,
+        );
         i += 1;
     }
     let slots = held.slots;

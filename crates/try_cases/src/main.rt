@@ -1,8 +1,9 @@
 // Answers the cases of a batch on standard input, many in one process, so that the library can be compared
-// with the second planner. The kinds with records and the one with a floor book are here, all others in
+// with the second planner. The kinds with records and those with a floor book are here, all others in
 // `try_answers`. The answers are the library's; this program only takes the cases apart and prints.
 mod booked;
 mod recorded;
+mod trolleys;
 
 use try_answers::answer;
 use try_batch::Head;
@@ -14,6 +15,7 @@ use try_batch::payload_room;
 fn answer_case(kind: u8, s: &[u8]) {
     match kind {
         b'B' => booked::admit(s, body(s)),
+        b'T' => trolleys::admit_all(s, body(s)),
         b'r' => recorded::read(s, body(s)),
         b'p' | b'o' | b'j' | b'y' => recorded::ask(kind, s, body(s)),
         _ => answer(kind, s),

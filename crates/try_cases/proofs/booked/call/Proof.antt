@@ -6,19 +6,10 @@ use Rattle.try_cases.proofs.booked.call.Statement.{statement}
 use Rattle.try_cases.proofs.booked.call.Tie as tie
 
 abbrev Inv-loop : tie.InvT-loop
-Inv-loop further s nodes lanes closed book clock start goal i₀ i = i ≤ further
+Inv-loop further clock start goal nodes lanes closed book i₀ i = i ≤ further
 
 abbrev μ-loop : tie.MeasureT-loop
-μ-loop further s nodes lanes closed book clock start goal i₀ i = further - i
-
-long-at-requires : tie.Need-long-at-requires Inv-loop μ-loop
-long-at-requires c κs = search needs
-
-short-at-requires : tie.Need-short-at-requires Inv-loop μ-loop
-short-at-requires c κs = search needs
-
-short-at-requires-2 : tie.Need-short-at-requires-2 Inv-loop μ-loop
-short-at-requires-2 c κs = search needs
+μ-loop further clock start goal nodes lanes closed book i₀ i = further - i
 
 loop-holds : tie.Need-loop-holds Inv-loop μ-loop
 loop-holds c = search needs
@@ -50,9 +41,6 @@ call-spec =
     (tie.spec
     Inv-loop
     μ-loop
-    long-at-requires
-    short-at-requires
-    short-at-requires-2
     loop-holds
     admit-lent-requires
     add-i

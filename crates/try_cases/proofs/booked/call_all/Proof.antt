@@ -35,6 +35,15 @@ mul-rest c = search needs
 rest-requires : tie.Need-rest-requires Inv-loop μ-loop
 rest-requires c κs = search needs
 
+long-at-requires : tie.Need-long-at-requires Inv-loop μ-loop
+long-at-requires c κs = search needs
+
+short-at-requires-4 : tie.Need-short-at-requires-4 Inv-loop μ-loop
+short-at-requires-4 c κs = search needs
+
+short-at-requires-5 : tie.Need-short-at-requires-5 Inv-loop μ-loop
+short-at-requires-5 c κs = search needs
+
 call-requires : tie.Need-call-requires Inv-loop μ-loop
 call-requires c κs = search needs
 
@@ -67,6 +76,9 @@ call-all-spec =
     cast-rest
     mul-rest
     rest-requires
+    long-at-requires
+    short-at-requires-4
+    short-at-requires-5
     call-requires
     add-i
     loop-less

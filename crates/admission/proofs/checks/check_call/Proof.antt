@@ -1,5 +1,5 @@
--- `admission::check_call` meets its contract: 16 and 14, then those of the network and the move, then 17, each by
--- the promise of the function that checks them. Assumes nothing.
+-- `admission::checks::check_call` meets its contract: 16 and 14, then those of the network and the move, then
+-- 17, each by the promise of the function that checks them. Assumes nothing.
 use mathlib.Core.List.{[], _∷_, _++_}
 use borrow.Author.Needs.{needs}
 use Rattle.hall.specs.Floor.{Network, networkOf}
@@ -11,8 +11,8 @@ use Rattle.slots.specs.Refusals.{bad-slot}
 use Rattle.slots.specs.Questions.{bookQuestion}
 use Rattle.admission.specs.Questions.{staleSlots}
 use Rattle.admission.proofs.SoundCall.{move-tells}
-use Rattle.admission.proofs.check_call.Statement.{statement}
-use Rattle.admission.proofs.check_call.Tie as tie
+use Rattle.admission.proofs.checks.check_call.Statement.{statement}
+use Rattle.admission.proofs.checks.check_call.Tie as tie
 
 abbrev network : tie.Start → Network
 network c = networkOf (c .args .nodes) (c .args .lanes .now) (c .args .closed .now)
