@@ -1,19 +1,25 @@
--- The row before the first sweep: the source at 0 if it is open, every other open node marked as not reached,
--- every closed node with the mark that never falls, and the rest as it came. Assumes nothing.
---     Begun           the row before the first sweep, compared with the row that came
+-- The row before the first round: the source at 0 if it is open, every other open node marked as not reached,
+-- every closed node with the mark that never falls, and the rest as it came. Rounds, or none, leave the row
+-- before the first sweep. Assumes nothing.
+--     Begun           the row before the first round, compared with the row that came
 --     shut-length     marking the nodes and then the closed ones leaves a row as long
 --     begun-open      marking the nodes, the closed ones and then the source leaves it
 --     begun-closed    so does marking without the source, where that is closed
+--     Unswept         the row before the first sweep, compared with the row that came
+--     unswept-spread  the rounds leave it, since labels only fell in them
 use mathlib.Core.Path.{_≡_, _∙_}
 use mathlib.Core.Logic.{_≢_}
 use mathlib.Core.List.{List, _++_}
 use Prim.Native.Nat.{ℕ, _+_, _-_, _≤_, _<_}
+use native.Mathlib.Decide.{ℕ-discrete}
 use native.Mathlib.Omega.{arith}
 use lib.ListN.{length, getD, set, replicate, drop, length-set, length-append, length-replicate, length-drop, getD-replicate, List·getD-append}
 use lib.Seq.{getD-set-same, getD-set-other, getD-append-add, getD-drop}
 use Rattle.hall.specs.Limits.{noWalkMark}
-use Rattle.hall.specs.Floor.{Network, Closed, Open}
-use Rattle.walk.specs.Sweep.{unreachedMark, Shut}
+use Rattle.hall.specs.Floor.{here, Network, Closed, Open}
+use Rattle.hall.proofs.FloorTests as tests
+use Rattle.hall.proofs.Test.{dec}
+use Rattle.walk.specs.Sweep.{unreachedMark, Shut, Labelled, unreached, reached, shut, AllLabelled, OnlyFell}
 
 pub record Begun (N : Network) (source : ℕ) (row₀ row : List ℕ) : Type 0 where
   pub size : length row ≡ length row₀
@@ -84,4 +90,29 @@ module _ (N : Network) (row₀ : List ℕ) (wide : N .nodes ≤ length row₀) {
     unreached = λ v o n. shut-open v o;
     shut = shut .marked;
     beyond = shut-beyond;
+  }
+
+-- ---- the rounds
+
+pub record Unswept (N : Network) (source : ℕ) (row₀ row : List ℕ) : Type 0 where
+  pub size : length row ≡ length row₀
+  pub beyond : (v : ℕ) → N .nodes ≤ v → getD row v 0 ≡ getD row₀ v 0
+  pub labelled : AllLabelled N source row
+  pub source-zero : Open N source → getD row source 0 ≡ 0
+
+module _ {N : Network} {source : ℕ} {row₀ row : List ℕ} (start : Begun N source row₀ row) where
+  first-open : (v : ℕ) → Open N v → Dec (v ≡ source) → Labelled N source v (getD row v 0)
+  first-open v o (yes e) = let o′ : Open N source = rw e at o in rw (e, start .source-zero o′) (reached (omega arith) (here o′))
+  first-open v o (no e) = unreached o (start .unreached v o e)
+
+  first-labelled : (v : ℕ) → v < N .nodes → Dec (Closed (N .closed) v) → Labelled N source v (getD row v 0)
+  first-labelled v h (yes c) = shut (λ o. o .not-closed c) (start .shut v h c)
+  first-labelled v h (no n) = first-open v (record { numbered = h; not-closed = n }) (ℕ-discrete v source)
+
+  pub unswept-spread : {left : List ℕ} → OnlyFell (N .nodes) (N .lanes) row left → Unswept N source row₀ left
+  unswept-spread f = record {
+    size = f .size ∙ start .size;
+    beyond = λ v h. f .beyond v h ∙ start .beyond v h;
+    labelled = f .labelled (N .closed) source (λ v h. first-labelled v h (dec (tests.closed? (N .closed) v)));
+    source-zero = λ o. omega (arith, f .fallen source, start .source-zero o);
   }

@@ -14,21 +14,20 @@ use mathlib.Core.Logic.{_⊎_, inl, inr, _≢_}
 use mathlib.Core.Bool.{Bool, false, not}
 use mathlib.Core.List.{List}
 use Prim.Native.Nat.{ℕ, _+_, _≤_, _<_}
-use native.Mathlib.Decide.{ℕ-discrete, decLt}
+use native.Mathlib.Decide.{decLt}
 use native.Mathlib.Omega.{arith}
 use lib.ListN.{length, getD}
 use Rattle.hall.specs.Limits.{noWalkMark}
-use Rattle.hall.specs.Floor.{Walk, here, step, Dist, NoWalk, DistanceIs, no-walk, Lane, Network, Closed, Open, floor, laneCount, lower, higher}
+use Rattle.hall.specs.Floor.{Walk, here, step, Dist, NoWalk, DistanceIs, no-walk, Lane, Network, Open, floor, laneCount, lower, higher}
 use Rattle.hall.proofs.Walks.{reverse, begins-on-node, ends-on-node, lanes-symmetric}
 use Rattle.hall.proofs.Pigeon.{dist-below}
 use Rattle.hall.proofs.Decide.{node-below, open?, joined-or-not}
-use Rattle.hall.proofs.FloorTests as tests
-use Rattle.hall.proofs.Test.{dec}
 use Rattle.hall.proofs.Labels.{Labels, Before, labels-are}
 use Rattle.walk.specs.Row.{RowServed, RowFilled}
 use Rattle.walk.specs.Sweep.{unreachedMark, Settled, NearAt, Labelled, unreached, reached, shut, AllLabelled, Sweepable, Fell, LanesSwept}
-use Rattle.walk.proofs.WalkBegun.{Begun}
-use Rattle.walk.proofs.WalkSweep.{lanes-left-some, labelled-bound}
+use Rattle.walk.proofs.WalkBegun.{Unswept}
+use Rattle.walk.proofs.WalkFalls.{labelled-bound}
+use Rattle.walk.proofs.WalkSweep.{lanes-left-some}
 
 pub record Walking (N : Network) (source : ℕ) (row₀ row : List ℕ) (sweeps : ℕ) (back : Bool) (todo : ℕ) : Type 0 where
   -- what is no node's is as it came
@@ -68,15 +67,7 @@ near-lane {N} {source} {row} {left} all near a b h i l = ends (l .ends)
 
 -- ---- the beginning
 
-module _ {N : Network} {source : ℕ} {row₀ row : List ℕ} (served : RowServed N source row₀) (start : Begun N source row₀ row) where
-  first-open : (v : ℕ) → Open N v → Dec (v ≡ source) → Labelled N source v (getD row v 0)
-  first-open v o (yes e) = let o′ : Open N source = rw e at o in rw (e, start .source-zero o′) (reached (omega arith) (here o′))
-  first-open v o (no e) = unreached o (start .unreached v o e)
-
-  first-labelled : (v : ℕ) → v < N .nodes → Dec (Closed (N .closed) v) → Labelled N source v (getD row v 0)
-  first-labelled v h (yes c) = shut (λ o. o .not-closed c) (start .shut v h c)
-  first-labelled v h (no n) = first-open v (record { numbered = h; not-closed = n }) (ℕ-discrete v source)
-
+module _ {N : Network} {source : ℕ} {row₀ row : List ℕ} (served : RowServed N source row₀) (start : Unswept N source row₀ row) where
   first-within : (v m : ℕ) → m ≤ 0 → Walk (floor N) v source m → getD row v 0 ≤ m
   first-within v m h (here n) = omega (arith, start .source-zero n)
   first-within v m h (step n l w) = absurd (let z : ⊥ = omega arith in z)
@@ -85,7 +76,7 @@ module _ {N : Network} {source : ℕ} {row₀ row : List ℕ} (served : RowServe
   walking-first = record {
     size = refl;
     beyond = λ v h. refl;
-    labelled = λ v h. first-labelled v h (dec (tests.closed? (N .closed) v));
+    labelled = start .labelled;
     within = first-within;
     sweepable = record {
       wide = omega (arith, start .size, served .wide);
@@ -101,7 +92,7 @@ module _ {N : Network} {source : ℕ} {row₀ row : List ℕ} (served : RowServe
 module _ {N : Network} {source : ℕ} {row₀ row left : List ℕ} {sweeps : ℕ} {back : Bool} {todo next : ℕ}
     (w : Walking N source row₀ row sweeps back todo) (s : LanesSwept (N .nodes) (N .lanes) back row left next) where
   swept-within : (v m : ℕ) → m ≤ sweeps + 1 → Walk (floor N) v source m → getD left v 0 ≤ m
-  swept-within v m h (here n) = omega (arith, s .fallen v, w .within v 0 (omega arith) (here n))
+  swept-within v m h (here n) = omega (arith, s .only .fallen v, w .within v 0 (omega arith) (here n))
   swept-within v m h (step {b = b} {n = m′} n l rest) =
       let near = near-lane (w .labelled) (s .near) b v (begins-on-node rest) n (lanes-symmetric N v b l) in
       omega (arith, near, w .within b m′ (omega arith) rest)
@@ -130,14 +121,14 @@ module _ {N : Network} {source : ℕ} {row₀ row left : List ℕ} {sweeps : ℕ
       fell-to (shut n e) old = absurd (let bound = labelled-bound old in let z : ⊥ = omega (arith, f .less) in z)
 
       on-node : Dec (f .node < N .nodes) → sweeps + 1 < N .nodes
-      on-node (no h) = absurd (let z : ⊥ = omega (arith, s .beyond (f .node) (omega arith), f .less) in z)
-      on-node (yes h) = fell-to (s .labelled (N .closed) source (w .labelled) (f .node) h) (w .labelled (f .node) h)
+      on-node (no h) = absurd (let z : ⊥ = omega (arith, s .only .beyond (f .node) (omega arith), f .less) in z)
+      on-node (yes h) = fell-to (s .only .labelled (N .closed) source (w .labelled) (f .node) h) (w .labelled (f .node) h)
 
   pub walking-swept : 0 < todo → Walking N source row₀ left (sweeps + 1) (not back) next
   walking-swept going = record {
-    size = s .size ∙ w .size;
-    beyond = λ v h. s .beyond v h ∙ w .beyond v h;
-    labelled = s .labelled (N .closed) source (w .labelled);
+    size = s .only .size ∙ w .size;
+    beyond = λ v h. s .only .beyond v h ∙ w .beyond v h;
+    labelled = s .only .labelled (N .closed) source (w .labelled);
     within = swept-within;
     sweepable = s .sweepable;
     few = omega (arith, w .more going);
@@ -242,7 +233,7 @@ module _ {N : Network} {source : ℕ} {row₋ row₀ row : List ℕ} {sweeps : �
     last-holds v h (no s) d = let none : NoWalk (floor N) source v = λ n walk. s (begins-on-node walk) in no-walk (last-none v h none) none
     last-holds v h (yes s) (no o) = let none : NoWalk (floor N) source v = λ n walk. o (ends-on-node walk) in no-walk (last-none v h none) none
 
-    pub walking-done : Begun N source row₋ row₀ → RowFilled N source row₋ left
+    pub walking-done : Unswept N source row₋ row₀ → RowFilled N source row₋ left
     walking-done start = record {
       size = settled .size ∙ w .size ∙ start .size;
       holds = λ v h. last-holds v h (open? N source) (open? N v);

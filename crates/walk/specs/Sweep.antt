@@ -4,7 +4,7 @@
 -- and `higher` are the first and the second number of a lane, whichever is lower: lists may be unsorted here.
 -- A sweep sees in a label that a node is closed, so its steps speak of labels below the mark of a closed
 -- node, 65,535, and of no closed list; which nodes these are is said by `Labelled`.
---     unreachedMark  the label of an open node that no sweep has reached: no walk is so long
+--     unreachedMark  the label of an open node that is not reached: no walk is so long
 --     Shut           the closed nodes of a list got their mark, and nothing else changed
 --     Settled        what was not reached got the mark for "no walk", and nothing else changed
 --     Greatest       the greatest number of a list, 0 of an empty one
@@ -19,6 +19,8 @@
 --     Labelled       a label of node v: one of the two marks, by whether v is open, or the length of a walk
 --                    from the source
 --     AllLabelled    every node has such a label
+--     OnlyFell       what every step of a round or a sweep keeps: labels of nodes fell, each to the length of
+--                    a walk, none rose, and nothing else changed
 --     Sweepable      what a sweep of `todo` lanes takes: a place of the row for each node, a list of as many
 --                    lanes or more, and those that it leaves out are calm
 --     Fell           a label that fell
@@ -94,6 +96,13 @@ pub data Labelled (N : Network) (source v label : ℕ) : Type 0 where
 abbrev pub AllLabelled : Network → ℕ → List ℕ → Type 0
 AllLabelled N source row = (v : ℕ) → v < N .nodes → Labelled N source v (getD row v 0)
 
+pub record OnlyFell (nodes : ℕ) (lanes row left : List ℕ) : Type 0 where
+  pub size : length left ≡ length row
+  pub beyond : (v : ℕ) → nodes ≤ v → getD left v 0 ≡ getD row v 0
+  pub labelled : (closed : List ℕ) (source : ℕ) → AllLabelled (networkOf nodes lanes closed) source row
+      → AllLabelled (networkOf nodes lanes closed) source left
+  pub fallen : (v : ℕ) → getD left v 0 ≤ getD row v 0
+
 pub record Sweepable (nodes : ℕ) (lanes : List ℕ) (back : Bool) (todo : ℕ) (row : List ℕ) : Type 0 where
   pub wide : nodes ≤ length row
   pub few : todo ≤ laneCount lanes
@@ -105,12 +114,8 @@ pub record Fell (row left : List ℕ) : Type 0 where
   pub less : getD left node 0 < getD row node 0
 
 pub record LanesSwept (nodes : ℕ) (lanes : List ℕ) (back : Bool) (row left : List ℕ) (next : ℕ) : Type 0 where
-  pub size : length left ≡ length row
-  pub beyond : (v : ℕ) → nodes ≤ v → getD left v 0 ≡ getD row v 0
-  pub labelled : (closed : List ℕ) (source : ℕ) → AllLabelled (networkOf nodes lanes closed) source row
-      → AllLabelled (networkOf nodes lanes closed) source left
-  -- no label rises, and each falls at least as far as one lane from the labels before the sweep lets it
-  pub fallen : (v : ℕ) → getD left v 0 ≤ getD row v 0
+  pub only : OnlyFell nodes lanes row left
+  -- each label is at least as low as one lane from the labels before the sweep lets it fall
   pub near : (k : ℕ) → k < laneCount lanes → NearAt nodes lanes row left k
   -- what the next sweep takes; if it has lanes, a label fell in this one
   pub sweepable : Sweepable nodes lanes (not back) next left

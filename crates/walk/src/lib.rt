@@ -10,15 +10,23 @@
 // label fell: then no lane lets a label fall, and each label is a distance or a mark. What is not reached
 // gets 65,535 last. The promise of `distances` names no sweep: it speaks of walks and their lengths alone.
 //
-// Cost: one step a number of the lane list, one an entry of the closed list and two a node beside the
-// sweeps. Whether a node is closed is seen in its label, and never looked up in the closed list. A sweep
-// looks at no lane twice. There are at most as many sweeps as nodes, which `reach` counts and promises. How
-// many goes by the order of the lanes in the list. Sorted, as in a checked network, and where no node is
-// closed, a line that is numbered along it and a grid that is numbered row by row take three at the most; a
-// line of three nodes or more that is numbered in zigzag (n - 1, 0, n - 2, 1 and so on) takes as many as it
-// has nodes, from its end n - 1. A sweep begins where a label fell last in the sweep before it, since the
-// lanes behind that place let no label fall. The ends of the lanes are tested in the sweeps only where the
-// list is not clean: its greatest number is no node.
+// Where there are many lanes a node, sweeps alone let a label fall again and again, and a processor
+// foresees no fall. So in a dense hall, with a clean list of three lanes a node or more, rounds go first.
+// Round d, from 0 on, looks only at lanes whose labels have the sum 65,534 + d: one end has the label d and
+// the other is not reached, and its label falls once, to its distance; or an end is closed, and none falls.
+// Rounds save time and nothing else: labels fall in them as in sweeps, and the sweeps that follow end the
+// walk in any case.
+//
+// Cost: one step a number of the lane list, one an entry of the closed list and two a node beside rounds
+// and sweeps. Whether a node is closed is seen in its label, and never looked up in the closed list.
+// Neither a round nor a sweep looks at a lane twice. There are at most five rounds, and at most as many
+// sweeps as nodes, which `reach` counts and promises. How many sweeps goes by the order of the lanes in the
+// list. Sorted, as in a checked network, and where no node is closed, a line that is numbered along it and
+// a grid that is numbered row by row take three at the most; a line of three nodes or more that is numbered
+// in zigzag (n - 1, 0, n - 2, 1 and so on) takes as many as it has nodes, from its end n - 1. A sweep
+// begins where a label fell last in the sweep before it, since the lanes behind that place let no label
+// fall. The ends of the lanes are tested in the sweeps only where the list is not clean: its greatest
+// number is no node.
 //
 // Working memory: some twenty numbers, and no list. The row is the caller's.
 use hall::Job;
@@ -28,14 +36,17 @@ ghost use mathlib.Core.Bool.{true};
 ghost use mathlib.Core.List.{_++_};
 ghost use lib.ListN.{length, replicate, drop};
 ghost use denote.Ref.{now};
-ghost use Rattle.hall.specs.Floor.{networkOf};
+ghost use Rattle.hall.specs.Floor.{networkOf, laneCount};
 ghost use Rattle.walk.specs.Row.{RowServed, RowFilled, Rowed};
 ghost use Rattle.walk.specs.Sweep.{unreachedMark, Shut, Settled};
-ghost use Rattle.walk.specs.Sweep.{Greatest, Clean, Looked, Sweepable, LanesSwept};
+ghost use Rattle.walk.specs.Sweep.{Greatest, Clean, Looked, OnlyFell, Sweepable, LanesSwept};
 
 // The label of an open node that is not reached: above the length of every walk, below the mark of a closed
 // node.
 const UNREACHED: u16 = 65534;
+
+// The most rounds that go before the sweeps.
+const ROUNDS: usize = 5;
 
 // The first `nodes` places of the row, marked as not reached.
 fn blank(nodes: usize, row: &mut [u16])
@@ -169,8 +180,61 @@ fn sweep(
     next
 }
 
-// The distance walk itself: sweeps, there and back by turns, until the next one has no lane. The answer is
-// how many there were; it stands in the promise, and no caller needs it.
+// One round: a look at each lane whose two labels have this sum. The answer is how many labels fell. The list
+// is clean.
+fn spread(nodes: usize, lanes: &[u16], sum: usize, row: &mut [u16]) -> usize
+    requires { ⌜ Clean nodes (now lanes) true
+        × (nodes ≤ length (now row)) ⌝ }
+    ensures { λ r. ⌜ OnlyFell nodes (now (lanes .entry)) (now (row .entry)) (now (row .exit))
+        × (r ≤ laneCount (now (lanes .entry))) ⌝ }
+{
+    let count = lanes.len() / 2;
+    let mut fell: usize = 0;
+    let mut k: usize = 0;
+    while k < count {
+        let a = lanes[2 * k];
+        let b = lanes[2 * k + 1];
+        let x = row[a as usize] as usize;
+        let y = row[b as usize] as usize;
+        if x + y == sum {
+            if look(nodes, true, a, b, row) {
+                fell += 1;
+            }
+        }
+        k += 1;
+    }
+    fell
+}
+
+// The rounds before the sweeps. There is none where the list is not clean or has fewer than three lanes a
+// node, as a line and a grid have: there sweeps alone take less time. Nor is there another after one in
+// which at most twice as many labels fell as in the one before: few nodes are then reached at a time, as in
+// a grid with diagonals, and a round would look at all lanes for them.
+fn spread_near(nodes: usize, clean: bool, lanes: &[u16], row: &mut [u16])
+    requires { ⌜ Clean nodes (now lanes) clean
+        × (nodes ≤ length (now row)) ⌝ }
+    ensures { λ _. ⌜ OnlyFell nodes (now (lanes .entry)) (now (row .entry)) (now (row .exit)) ⌝ }
+{
+    if !clean {
+        return;
+    }
+    if lanes.len() / 6 < nodes {
+        return;
+    }
+    let mut before: usize = 0;
+    let mut far: usize = 0;
+    while far < ROUNDS {
+        let fell = spread(nodes, lanes, UNREACHED as usize + far, row);
+        if fell <= 2 * before {
+            return;
+        }
+        before = fell;
+        far += 1;
+    }
+}
+
+// The distance walk itself: rounds in a dense hall, then sweeps, there and back by turns, until the next one
+// has no lane. The answer is how many sweeps there were; it stands in the promise, and no caller needs it.
 fn reach(nodes: usize, lanes: &[u16], closed: &[u16], source: u16, row: &mut [u16]) -> usize
     requires { ⌜ RowServed (networkOf nodes (now lanes) (now closed)) source (now row) ⌝ }
     ensures { λ r. ⌜ RowFilled (networkOf nodes (now (lanes .entry)) (now (closed .entry))) source
@@ -185,6 +249,7 @@ fn reach(nodes: usize, lanes: &[u16], closed: &[u16], source: u16, row: &mut [u1
     if row[place] == UNREACHED {
         row[place] = 0;
     }
+    spread_near(nodes, clean, lanes, row);
     let mut sweeps: usize = 0;
     let mut back = false;
     let mut todo = lanes.len() / 2;

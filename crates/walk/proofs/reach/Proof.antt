@@ -8,7 +8,7 @@ use borrow.Author.Needs.{needs}
 use lib.ListN.{length}
 use Rattle.hall.specs.Floor.{Network, networkOf}
 use Rattle.walk.specs.Sweep.{Clean}
-use Rattle.walk.proofs.WalkBegun.{Begun, shut-length, begun-open, begun-closed}
+use Rattle.walk.proofs.WalkBegun.{Begun, shut-length, begun-open, begun-closed, Unswept, unswept-spread}
 use Rattle.walk.proofs.WalkGreatest.{clean-greatest}
 use Rattle.walk.proofs.WalkReach.{Walking, walking-first, walking-swept, walking-done}
 use Rattle.walk.proofs.reach.Statement.{statement}
@@ -59,7 +59,7 @@ mul-row c = omega arith
 slice-write-row : tie.Need-slice-write-row Inv-loop μ-loop
 slice-write-row c = place-inside (c .before)
 
--- the row before the first sweep
+-- the row before the first round
 row-begun : (c : tie.Joined1 Inv-loop μ-loop) → Begun (network (c .before)) (entry (c .before) .args .source) (entry (c .before) .args .row .now) (c .if1 .row)
 row-begun c =
     let start = entry (c .before) in
@@ -70,12 +70,29 @@ row-begun c =
       | inr x ↦ rw (x .1) (begun-closed (network (c .before)) (start .args .row .now) (start .pre .wide) (blank .ensures) (shut .ensures) (start .args .source) (x .0 .left))
     ]
 
+-- the call that found the greatest number of the list
+abbrev measured : tie.Joined1 Inv-loop μ-loop → tie.After-greatest Inv-loop μ-loop
+measured c = c .before .before .before .before .before .before .before .before .before .before
+
+spread-near-requires : tie.Need-spread-near-requires Inv-loop μ-loop
+spread-near-requires c κs =
+    let start = entry (c .before .before) in (
+      clean-greatest (start .args .nodes) (start .args .lanes .now) (measured (c .before) .greatest .ensures),
+      omega (arith, row-begun (c .before) .size, start .pre .wide),
+    )
+
+-- the row before the first sweep, and the join behind the test of the source's place
+abbrev joined : tie.After-slice-known5 Inv-loop μ-loop → tie.Joined1 Inv-loop μ-loop
+joined c = c .before .before .before .before
+
+row-unswept : (c : tie.After-slice-known5 Inv-loop μ-loop) → let start = entry (joined c .before) in
+    Unswept (network (joined c .before)) (start .args .source) (start .args .row .now) (c .before .before .spread-near .last .1 .1 .1 .0)
+row-unswept c = unswept-spread (row-begun (joined c)) (c .before .before .spread-near .ensures)
+
 loop-holds : tie.Need-loop-holds Inv-loop μ-loop
 loop-holds c =
-    let start = entry (c .before) in (
-      walking-first (start .pre) (row-begun c),
-      clean-greatest (start .args .nodes) (start .args .lanes .now) (c .before .before .before .before .before .before .before .before .before .before .greatest .ensures),
-    )
+    let start = entry (joined c .before) in
+    (walking-first (start .pre) (row-unswept c), clean-greatest (start .args .nodes) (start .args .lanes .now) (measured (joined c) .greatest .ensures))
 
 sweep-requires : tie.Need-sweep-requires Inv-loop μ-loop
 sweep-requires c κs = let loop = c .before .before .loop in (loop .inv .1, loop .inv .0 .sweepable)
@@ -83,7 +100,7 @@ sweep-requires c κs = let loop = c .before .before .loop in (loop .inv .1, loop
 add-sweeps : tie.Need-add-sweeps Inv-loop μ-loop
 add-sweeps c =
     let turn = c .before .before .before .before .before in
-    omega (arith, turn .loop .inv .0 .few, entry (turn .before .before) .pre .few)
+    omega (arith, turn .loop .inv .0 .few, entry (joined (turn .before) .before) .pre .few)
 
 loop-less : tie.Need-loop-less Inv-loop μ-loop
 loop-less c =
@@ -101,12 +118,12 @@ settle-requires c κs = c .before .before .loop .inv .0 .sweepable .wide
 same-length : tie.Need-same-length Inv-loop μ-loop
 same-length c =
     let turn = c .before .before .before .before .before in
-    c .before .before .settle .ensures .size ∙ turn .loop .inv .0 .size ∙ row-begun (turn .before) .size
+    c .before .before .settle .ensures .size ∙ turn .loop .inv .0 .size ∙ row-unswept (turn .before) .size
 
 returns : tie.Need-returns Inv-loop μ-loop
 returns c =
     let turn = c .before .before .before .before .before in
-    (walking-done (entry (turn .before .before) .pre) (turn .loop .inv .0) (omega arith) (c .before .before .settle .ensures) (row-begun (turn .before)), turn .loop .inv .0 .few)
+    (walking-done (entry (joined (turn .before) .before) .pre) (turn .loop .inv .0) (omega arith) (c .before .before .settle .ensures) (row-unswept (turn .before)), turn .loop .inv .0 .few)
 
 pub reach-spec : {M : Type 1} → statement M
 reach-spec =
@@ -122,6 +139,7 @@ reach-spec =
     slice-read-if1
     mul-row
     slice-write-row
+    spread-near-requires
     loop-holds
     sweep-requires
     add-sweeps

@@ -66,7 +66,7 @@ look-requires c κs =
     let joined = c .before .before .before .before in
     let start = joined .before .before .before .before .before in
     let inside = here joined .0 in (
-      omega (arith, joined .before .before .loop .inv .size, start .pre .1 .wide),
+      omega (arith, joined .before .before .loop .inv .only .size, start .pre .1 .wide),
       λ e. clean-lanes (start .args .nodes) (start .args .lanes .now) (start .pre .0) e (joined .if1 .k) inside .0,
       λ e. clean-lanes (start .args .nodes) (start .args .lanes .now) (start .pre .0) e (joined .if1 .k) inside .1,
     )
@@ -97,7 +97,7 @@ loop-again-2 : tie.Need-loop-again-2 Inv-loop μ-loop
 loop-again-2 c = looked (c .before) _ (rw (c .if2 .left))
 
 same-length : tie.Need-same-length Inv-loop μ-loop
-same-length c = c .before .loop .inv .size
+same-length c = c .before .loop .inv .only .size
 
 returns : tie.Need-returns Inv-loop μ-loop
 returns c =
