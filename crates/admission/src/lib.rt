@@ -7,6 +7,8 @@
 // carrier held, and for 17 one walk for each different start of the carriers that are judged (stale.rt).
 // Working memory: three rows of 1,024 distances and the held list of `rule`, 7,936 bytes, and beside them
 // copies of the book, of 776 bytes each.
+#![tactic(auto)]
+
 mod checks;
 mod stale;
 mod tick;

@@ -4,6 +4,8 @@
 // a network and a move, which the crate `path` answers.
 //
 // Cost: a distance walk for each carrier, at most 64, and then that of the question itself.
+#![tactic(auto)]
+
 ghost use Rattle.std.specs.Prelude.{[], ◌∷◌, ◌≤◌, ◌<◌};
 ghost use Rattle.hall.specs.Limits.{node_limit};
 ghost use Rattle.hall.specs.Floor.{NoWalk, network_of, floor};

@@ -2,6 +2,8 @@
 // thin admission and by a thin trolley over the steps by value (crate `admission`). Each takes the record
 // out, calls its step, and puts back the record that the step answers. Nothing is decided here: a function
 // over a lent struct is proved by hand, and the less there is of it the better.
+#![tactic(auto)]
+
 ghost use Rattle.hall.specs.Floor.{network_of};
 ghost use Rattle.admission.specs.Admission.{Admission, said_answer};
 ghost use Rattle.admission.specs.Trolley.{said_ended, Ride};

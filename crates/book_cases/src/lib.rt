@@ -2,3 +2,4 @@
 // as tables, and that the definitions of the crates `slots` and `admission` give their outcomes. Laws only;
 // there is no function here. A line of a table costs no proof of its own: a test computes it. They stand
 // above `admission`, so that a change of its laws is checked without them.
+#![tactic(auto)]

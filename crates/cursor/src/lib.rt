@@ -4,6 +4,8 @@
 // take every cursor, every text and every word. Each step looks at the bytes from the cursor on and decides
 // on their kinds; a word's letters are capital letters before they are compared. A line feed is the only byte
 // behind which the line is another; lines are counted up to a limit, which no job text comes near.
+#![tactic(auto)]
+
 ghost use Rattle.std.specs.Prelude.{◌≡◌, ◌++◌, suc, ◌≤◌, ◌<◌, min, drop};
 ghost use Rattle.put.specs.Digits.{digits};
 ghost use Rattle.cursor.specs.Steps.{line_limit, Counting, Entering, EnteringTwo};

@@ -2,3 +2,4 @@
 // has no function: specs/ says, of written lines alone, when a text is accepted and with which number it is
 // refused at which line; proofs/ has the laws. A reader stands above it, and its promise cites these
 // definitions.
+#![tactic(auto)]

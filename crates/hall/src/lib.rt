@@ -1,6 +1,8 @@
 // The types that every crate shares, in the words of the rules: a job's counts with their limits, a place in
 // the order, a carrier's number, faults and refusals. The mathematics that they speak about stands in specs/,
 // its laws in proofs/. Nothing here refuses or searches; the functions that write are in zero.rt.
+#![tactic(auto)]
+
 ghost use Rattle.std.specs.Prelude.{◌≡◌, get_or};
 ghost use Rattle.hall.specs.Numbers.{number_of};
 ghost use Rattle.hall.specs.Limits.{largest_job, empty_job};

@@ -2,3 +2,4 @@
 // `&mut` or `&`, a local array or struct that is lent on. Laws only; there is no function here. They speak of
 // no struct of the house: a crate that has one to lend gives its row (crate `records`, proofs/Table.antt) and
 // takes the steps from here. They say what may be done with memory, and nothing of what is computed.
+#![tactic(auto)]

@@ -7,6 +7,8 @@
 //
 // Working memory here: 260 bytes for the moves of at most 65 records (`recorded` says why 65), 384 for the
 // distances and ticks of 64.
+#![tactic(auto)]
+
 ghost use Rattle.hall.specs.Floor.{network_of};
 ghost use Rattle.recorded.specs.Reading.{ReadLeft};
 ghost use Rattle.recorded.specs.Writing.{RecordWriting};

@@ -7,6 +7,8 @@
 // Cost: one distance walk a question (two for the choice); the house path looks at each lane once for each of
 // its nodes, and the question about one list at the lanes up to the one that it needs for each of its steps,
 // if the list has the right length. No number of a list is looked up among the closed nodes.
+#![tactic(auto)]
+
 ghost use Rattle.std.specs.Prelude.{◌≡◌, List, ℕ, ◌≤◌, length};
 ghost use Rattle.hall.specs.Limits.{node_limit};
 ghost use Rattle.hall.specs.Floor.{Lane, network_of};

@@ -2,6 +2,8 @@
 // rules). What is printed for a text is the promise of `report::answer`; only the calls of read and write are
 // assumed. The first bytes of a long input have its answer (rule 7.7; `answer_of_front` in crate report), so
 // no more are read.
+#![tactic(auto)]
+
 use libc::{STDIN_FILENO, STDOUT_FILENO};
 use reader::FIRST_BYTES;
 use report::print::ROOM;

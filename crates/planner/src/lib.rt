@@ -6,6 +6,8 @@
 //
 // Work at the limit of 64 carriers: at most 128 distance walks (see crate tables) and some 90,000 pair tests
 // (see crate ticks).
+#![tactic(auto)]
+
 ghost use Rattle.hall.specs.Floor.{network_of};
 ghost use Rattle.hall.specs.Job.{job_of};
 ghost use Rattle.hall.specs.Said.{said_checked};

@@ -4,6 +4,8 @@
 // has to ask for room before it puts. Who prints a text into a list of a least length closes it with
 // `zero_rest` (rules 9.2, 9.13 and 10.6): places behind the text are zero up to that length, and those beyond
 // are never touched.
+#![tactic(auto)]
+
 ghost use Rattle.std.specs.Prelude.{◌-◌, ◌<◌, [], ◌∷◌, ◌≡◌, replicate};
 ghost use Rattle.put.specs.Digits.{digit, digits, field};
 ghost use Rattle.put.specs.Putting.{overwritten, Put};

@@ -3,6 +3,8 @@
 // refused before anything is read, and leaves every table as it came. Otherwise each table becomes zero up to
 // its least length before its section is read, so that an accepted text leaves its numbers and zeros behind
 // them; a refusal zeroes every table.
+#![tactic(auto)]
+
 ghost use Rattle.hall.specs.Rule.{Answers};
 ghost use Rattle.reader.specs.Reading.{said_read, TooShort, ReadInto};
 ghost use Rattle.reader.specs.Text.{Long, TextRead};

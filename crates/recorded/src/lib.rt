@@ -8,6 +8,8 @@
 // carriers the job has. The list is working memory of the caller: 260 bytes, for the moves of 65 records, one
 // more than a job can have. A job of more than 64 records is refused whatever the moves are, so the 65th
 // tells enough.
+#![tactic(auto)]
+
 ghost use Rattle.std.specs.Prelude.{◌≡◌, min};
 ghost use Rattle.hall.specs.Floor.{network_of};
 ghost use Rattle.hall.specs.Job.{job_of};

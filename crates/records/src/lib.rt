@@ -2,6 +2,8 @@
 // them to numbers and back. Each takes every input: it goes as far as the shortest of what it is lent.
 // Nothing here decides: what is to be written, and for how many records, is computed by functions on numbers.
 // Every promise is one equation of the list that is left (specs/Table.antt).
+#![tactic(auto)]
+
 ghost use Rattle.std.specs.Prelude.{◌≡◌, ◌/◌, min};
 ghost use Rattle.records.specs.Table.{moved, timed, placed};
 

@@ -4,6 +4,8 @@
 // bytes nothing is printed and the answer is 0 (rule 10.6). A print is none of the questions of section 8, so
 // no refusal number is given for a short list. The tables that reading and planning fill are locals of their
 // least lengths, 43,776 bytes of arrays, so neither refuses with 9.
+#![tactic(auto)]
+
 ghost use Rattle.std.specs.Prelude.{◌≡◌};
 ghost use Rattle.hall.specs.Floor.{network_of};
 ghost use Rattle.hall.specs.Job.{job_of};

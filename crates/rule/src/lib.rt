@@ -8,6 +8,8 @@
 // tick after the move. So at most k rounds change the tick, one more changes nothing, and each makes k pair
 // tests: k (k + 1) tests at most, 4,032 for the 63 carriers before the last one of a job. That the rounds are
 // so few is proved: it is the measure of the loop (proofs/Work.antt).
+#![tactic(auto)]
+
 ghost use Rattle.std.specs.Prelude.{◌+◌, ◌*◌, ◌/◌, ◌≤◌, ◌<◌, pos, ◌-ℤ◌, length};
 ghost use Rattle.hall.specs.Rule.{Forbidden, Permitted, pair6, Answers};
 ghost use Rattle.hall.specs.Ticks.{SmallestFrom, PermittedBy};

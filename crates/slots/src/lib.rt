@@ -6,6 +6,8 @@
 //
 // A record is built in one place, `Book::with_slots`, so that what a book holds beside its slots is said
 // there and nowhere else.
+#![tactic(auto)]
+
 ghost use Rattle.std.specs.Prelude.{◌≡◌, length};
 ghost use Rattle.hall.specs.Rule.{Answers};
 ghost use Rattle.hall.specs.Said.{Judged};

@@ -7,6 +7,8 @@
 //
 // Cost: one distance walk for each different node that is a start or a goal, 128 at the most. What a walk
 // finds is copied to the rows of all carriers whose start or goal its node is.
+#![tactic(auto)]
+
 ghost use Rattle.std.specs.Prelude.{ℕ, ◌+◌, ◌≤◌, ◌<◌, ◌≡◌, length, get_or};
 ghost use Rattle.hall.specs.Limits.{carrier_limit, table_length};
 ghost use Rattle.hall.specs.Floor.{network_of};

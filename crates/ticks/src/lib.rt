@@ -8,6 +8,8 @@
 // Work for k carriers: the one at place q is tested against the q before it, q (q + 1) pair tests at most
 // (see crate rule), so less than k³ / 3 in all. That is 87,360 for 64 carriers at most, and far fewer where
 // few stretches overlap.
+#![tactic(auto)]
+
 ghost use Rattle.std.specs.Prelude.{◌≡◌, ◌+◌, ◌*◌, ◌≤◌, ◌<◌, min, length, get_or};
 ghost use Rattle.hall.specs.Limits.{carrier_limit, dwell_limit, table_length};
 ghost use Rattle.hall.specs.Rule.{Answers};

@@ -2,6 +2,8 @@
 // apart, asks the library one question, or two, and prints the answer and what the tables hold that were lent
 // full of marks. The answers are the library's; nothing is decided here. What is printed no contract can say,
 // so that every function is safe and ends is all that there is to promise.
+#![tactic(auto)]
+
 mod asked;
 mod text;
 

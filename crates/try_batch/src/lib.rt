@@ -6,6 +6,8 @@
 // Each function is safe for every input and ends, and its promise fixes what it answers. Two things no
 // contract can say: what is read and written, so `next_case` promises less and a function that only prints
 // nothing more; and what a lent room holds after a part of it is answered (payload.rt, marked.rt).
+#![tactic(auto)]
+
 pub mod marked;
 pub mod payload;
 pub mod print;

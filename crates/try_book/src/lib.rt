@@ -5,6 +5,8 @@
 // Promised is, for every input, the promise of the function that is called, of the book that came and the one
 // that is answered. That fixes the answer, the book and the list of ticks (proofs/Unique.antt). Nothing is
 // decided here.
+#![tactic(auto)]
+
 ghost use Rattle.hall.specs.Floor.{network_of};
 ghost use Rattle.admission.specs.Admission.{Admission, said_answer};
 ghost use Rattle.admission.specs.Trolley.{said_ended, Ride};

@@ -1,6 +1,8 @@
 // Answers the cases of a batch on standard input, many in one process, so that the library can be compared
 // with the second planner. The kinds with records and those with a floor book are here, all others in
 // `try_answers`. The answers are the library's; this program only takes the cases apart and prints.
+#![tactic(auto)]
+
 mod booked;
 mod recorded;
 mod trolleys;

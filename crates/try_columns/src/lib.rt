@@ -3,6 +3,8 @@
 // the distances, the ticks. A list that is shorter is read as far as it goes and then as zeros, and written
 // as far as it goes; a start, goal or distance above 65,535 counts as 65,535. What is public takes every
 // input, and its promise is an equation (specs/Columns.antt).
+#![tactic(auto)]
+
 ghost use Rattle.std.specs.Prelude.{◌≡◌, ◌<◌, min, set};
 ghost use Rattle.try_columns.specs.Columns.{lendable, half_of, number_in, record_from};
 ghost use Rattle.try_columns.specs.Columns.{made_of, tell_to, told_to};

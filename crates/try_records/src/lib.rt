@@ -10,6 +10,8 @@
 // Promised is, for every input, that the question's own promise in `jobs` holds of the records lent, and that
 // `fields` ends as what the question leaves of them and those behind, written to it (specs/Lent.antt). That
 // fixes the answer, every lent table and `fields` (proofs/Unique.antt). Nothing is decided here.
+#![tactic(auto)]
+
 ghost use Rattle.hall.specs.Floor.{network_of};
 ghost use Rattle.try_records.specs.Lent.{LentReading, LentPlanning, LentHouse, LentList, LentWriting};
 

@@ -29,6 +29,8 @@
 // number is no node.
 //
 // Working memory: some twenty numbers, and no list. The row is the caller's.
+#![tactic(auto)]
+
 ghost use Rattle.std.specs.Prelude.{◌≤◌, ◌<◌, ◌≡◌, true, ◌++◌, length, replicate, drop};
 ghost use Rattle.hall.specs.Floor.{network_of, lanes_in};
 ghost use Rattle.walk.specs.Row.{RowServed, RowFilled, Rowed};

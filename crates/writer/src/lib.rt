@@ -8,6 +8,8 @@
 //
 // An odd last number of the moves is in no move and is not written (rule 1.7). An odd last number of the
 // lanes is a fault of their count.
+#![tactic(auto)]
+
 ghost use Rattle.hall.specs.Floor.{network_of};
 ghost use Rattle.hall.specs.Job.{job_of};
 ghost use Rattle.put.specs.Digits.{field};
