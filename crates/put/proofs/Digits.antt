@@ -3,13 +3,13 @@
 -- A number has more digits than its tenth by one, its last one (`ten_up`), as long as the bound on the count
 -- of digits is above the number; so each law goes from a number's tenth to the number (`by_tenths`). Assumes
 -- nothing.
---     below_ten, ten-up    the digits of a number below ten; those of any other, by its tenth's
---     two_digits, three-digits, four-digits    those of a number below 10,000, one by one
+--     below_ten, ten_up    the digits of a number below ten; those of any other, by its tenth's
+--     two_digits, three_digits, four_digits    those of a number below 10,000, one by one
 --     digit_behind         a digit behind those of a number writes ten times the number and the digit
---     digits_value         the digits write the number; digits-unique so they tell it
---     digits_some          there are some; digits-leading a first zero is alone
---     AllDigits            each byte of a list is a digit; digits-each those of a number are
---     digits_length        there are at most so many; digits-at-least there are at least so many
+--     digits_value         the digits write the number; digits_unique so they tell it
+--     digits_some          there are some; digits_leading a first zero is alone
+--     AllDigits            each byte of a list is a digit; digits_each those of a number are
+--     digits_length        there are at most so many; digits_at_least there are at least so many
 use mathlib.Core.Path.{◌≡◌, refl, sym, ◌∙◌, ap}
 use mathlib.Core.Logic.{◌⊎◌, inl, inr}
 use mathlib.Core.Bool.{Bool, true, false}
