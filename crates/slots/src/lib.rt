@@ -19,7 +19,7 @@ ghost use Rattle.slots.specs.Questions.{book_question};
 use hall::{Checked, Fault, Job, Refusal};
 
 // A carrier held: its start, goal, distance and start tick. All zero means free, and nothing else does.
-#[derive(Drop)]
+#[derive(Clone, Copy)]
 pub struct Slot {
     pub start: u16,
     pub goal: u16,
@@ -28,7 +28,7 @@ pub struct Slot {
 }
 
 // The book: its clock, how long its carriers stand on their goals, and its slots.
-#[derive(Drop)]
+#[derive(Clone, Copy)]
 pub struct Book {
     pub clock: u32,
     pub dwell: u32,
