@@ -1,11 +1,11 @@
 -- The carriers against which a start tick has to be permitted (rule 5.2), as one list of numbers. Seven
 -- numbers stand for each held carrier, by turns: its start tick, then the six distances of the pair that it
 -- makes with the new carrier (rule 4.2). The held carrier is i of the rule, the new one j (rule 4.1).
---     held_tick held p    the start tick of the carrier held at place p
---     held_pair held p    its pair with the new carrier: start to start, goal to goal, its own distance, the
+--     held_tick held p   the start tick of the carrier held at place p
+--     held_pair held p   its pair with the new carrier: start to start, goal to goal, its own distance, the
 --                        new carrier's own, from its start to the new carrier's goal, from the new carrier's
 --                        start to its goal
---     held_with           the list with a carrier written at a place: its start tick, then its pair with the
+--     held_with          the list with a carrier written at a place: its start tick, then its pair with the
 --                        new carrier
 --     CarrierHeld        the list has a group of seven at that place, and the carrier was written there
 --     HoldUntouched      the list has none at that place, and is as it came

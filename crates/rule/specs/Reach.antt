@@ -1,6 +1,6 @@
 -- What a tick on the way to the first permitted one (rule 5.3) satisfies. Inner functions promise these; no
 -- public promise cites them.
---     latest_tick         12,884,901,886: one past the latest last tick that a start tick, a distance and a
+--     latest_tick        12,884,901,886: one past the latest last tick that a start tick, a distance and a
 --                        dwell of 32 bits can make. No later tick comes up
 --     TickReached        x is no earlier than a given tick, and no tick from that one up and before x is
 --                        permitted
