@@ -9,14 +9,14 @@
 --                      a new lifetime ν; n is the array's length
 --     unlends_array    [ν's token; what comes back later; what the callee says of the last list zs; …] → [the
 --                      elements zs; …]
---     shares_array, unshares-array     the same for a `&ν [T]`: the list comes back as it was
+--     shares_array, unshares_array     the same for a `&ν [T]`, T Copy: the list comes back as it was
 -- Assumes `Logic`.
 use mathlib.Core.Path.{◌≡◌, refl, sym, subst}
 use Prim.Native.Nat.{ℕ, zero, suc}
 use mathlib.Core.List.{List, [], ◌∷◌}
 use lib.ListN.{length, length-replicate, replicate}
 use seplogic.Ra.Ura.{Ura}
-use seplogic.Ra.TreeShare.{full_share}
+use base.Fraction.{full_share}
 use mir.Syntax.{erased, ty_array}
 use mir.Raw.{raw as raw_ty}
 use mir.Val.{Val}
@@ -27,23 +27,23 @@ use types.SemTy.{cells, Arr}
 use types.Share.{arr_parts}
 use types.Tokens.{lft_new, lft_end}
 use denote.RattleType.{RattleType}
-use denote.Shadow.{shadow, pure_i}
+use denote.Shadow.{shadow}
 use denote.Laws.{Is, shows}
 use denote.Array.{Array, each, array_val, array_vals, Array-Makes, Array-Tells}
 use denote.ArrayMemory.{Single, Array-apart, Array-whole}
 use denote.Memory.{cell_raw, raw_all, lone, mem, shares, part_at, part_of}
-use denote.Slice.{slice_val, MutSlice, ShrSlice, Room, finally, shr_slice_at}
-use denote.Lend.{Held, lends_slice, slice_back}
+use denote.Slice.{slice_val, MutSlice, ShrSlice, Room, finally}
+use denote.Lend.{Held, lends_slice, lends_shr_slice, slice_back}
+use denote.Copied.{Copied}
 use denote.Index.{row, whole_in, whole_out}
 use denote.Steps.{only, owned, facts}
-use borrow.Table.Owned as O
 use borrow.Rule.Array.Rows.{parts_f}
-use borrow.Rule.Array.Share.{share_cells, shared_back}
-use Rattle.hand.proofs.Walk.{Elem, ref}
+use borrow.Rule.Array.Share.{shared_back}
+use Rattle.hand.proofs.Walk.{Elem, ref, look_ref}
 
 -- n times one element: the relation of `[x; n]`
 module _ (R : RattleType) (x : R.Denot) (u : Val) (is : Is R x (u ∷ [])) where
-  each_repeated : (n : ℕ) → shadow (each R.Denot R.own (replicate n x) (replicate n u))
+  each_repeated : (n : ℕ) → shadow (each R.Denot R.own_val (replicate n x) (replicate n u))
   each_repeated zero = tt
   each_repeated (suc n) = (is, each_repeated n)
 
@@ -86,13 +86,15 @@ module _ {M : Type 1} {𝓤 : Ura M} {𝓛 : Logic 𝓤} {K : Type 0} {Γ : List
       lft_end t z $ move t (2 ∷ []) $ fsplit t $ move t (1 ∷ []) $ feq_l t (λ e. move t (1 ∷ 2 ∷ 0 ∷ []) $
       use3 𝓛 (later (‵ ((Arr (mem R) (length ys)).own_at zs b o))) (slice_back 𝓛 R (ν ∷ []) δ zs (length ys) b o) $ await t z $ fsplit t $ drop t $ k e)
 
-  pub shares_array : K → Soaks G → (R : RattleType) (ys : List R.Denot) (b o n : ℕ) → length ys ≡ n → Room R n
-      → ((ν : ℕ) (δ : GName) → Seq K 𝓛 (‵ ((ShrSlice erased (ν ∷ []) R).own_val (ref b o δ ys) (slice_val (b, o) n ∷ [])) ∷ ‵ (flft (ν ∷ []) full_share) ∷ ‵ (flent (ν ∷ []) (parts_f R ys b o)) ∷ Γ) G)
+  pub shares_array : K → Soaks G → (R : RattleType) → Copied 𝓛 R → (ys : List R.Denot) (b o n : ℕ) → length ys ≡ n → Room R n
+      → ((ν : ℕ) → Seq K 𝓛 (‵ ((ShrSlice erased (ν ∷ []) R).own_val (look_ref b o ys) (slice_val (b, o) n ∷ [])) ∷ ‵ (flft (ν ∷ []) full_share) ∷ ‵ (flent (ν ∷ []) (parts_f R ys b o)) ∷ Γ) G)
       → Seq K 𝓛 (‵ (cells (mem R) ys b o) ∷ Γ) G
-  shares_array t z R ys b o n e g k = lft_new t z (λ ν. move t (1 ∷ []) $
-      use1 𝓛 (later (some (λ (δ : GName). ‵ ((O.ShrSlice erased (ν ∷ []) R).own (ref b o δ ys)) ⊛ ‵ (flent (ν ∷ []) (parts_f R ys b o))))) (share_cells 𝓛 R (ν ∷ []) b ys o (subst (Room R) (sym e) g)) $ await t z $ pick t (λ δ. split t $
-      fsplit t $ drop t $ pure_i t (shr_slice_at R (ref b o δ ys) (slice_val (b, o) (length ys) ∷ [])) (tt, (tt, tt)) (refl, subst (Room R) (sym e) g) $ fjoin t $
-      rewrite t 0 (λ (m : ℕ). ‵ ((ShrSlice erased (ν ∷ []) R).own_val (ref b o δ ys) (slice_val (b, o) m ∷ []))) e refl $ move t (0 ∷ 2 ∷ []) $ k ν δ))
+  shares_array t z R c ys b o n e g k = lft_new t z (λ ν. move t (1 ∷ []) $
+      use1 𝓛 (‵ (row R full_share ys b o)) (whole_out 𝓛 R ys b o) $ feq_i t ℕ (length ys) (length ys) refl $ fjoin t $
+      use2 𝓛 (later ((‵ ((ShrSlice erased (ν ∷ []) R).own_val (look_ref b o ys) (slice_val (b, o) (length ys) ∷ [])) ⊛ ‵ (flent (ν ∷ []) (parts_f R ys b o))) ⊛ ‵ (flft (ν ∷ []) full_share)))
+      (lends_shr_slice 𝓛 R erased (ν ∷ []) full_share ys b o (subst (Room R) (sym e) g) (ν ∷ []) (c.shares full_share (ν ∷ [])) ((ν ∷ [], full_share) ∷ []) (λ x m. m) (λ x m. m)) $ await t z $ split t $ split t $
+      -- [the slice; what comes back later; the token]
+      rewrite t 0 (λ (m : ℕ). ‵ ((ShrSlice erased (ν ∷ []) R).own_val (look_ref b o ys) (slice_val (b, o) m ∷ []))) e refl $ move t (0 ∷ 2 ∷ []) $ k ν)
 
   pub unshares_array : K → Soaks G → (R : RattleType) {ν : ℕ} (ys : List R.Denot) (b o : ℕ) → Step K 𝓛 (‵ (cells (mem R) ys b o) ∷ Γ) G (‵ (flft (ν ∷ []) full_share) ∷ ‵ (flent (ν ∷ []) (parts_f R ys b o)) ∷ Γ) G
   unshares_array t z R {ν} ys b o = step (λ s. lft_end t z $ use2 𝓛 (later (‵ (cells (mem R) ys b o))) (shared_back 𝓛 R (ν ∷ []) b ys o) $ await t z $ s)

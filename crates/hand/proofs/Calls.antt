@@ -3,7 +3,7 @@
 --                      token; what comes back later; …], for a new lifetime ν: it is lent again, `&mut *s`
 --     unlends_mut      [ν's token; what comes back later; what the callee says of the last list zs; …] → [own
 --                      of the `&κ mut [T]` at zs; κ's token; …]
---     shares_mut, unshares-mut     the same for `&*s`: a `&ν [T]`, and the list comes back as it was
+--     shares_mut, unshares_mut     the same for `&*s`, of a T that is Copy: a `&ν [T]`, and the list comes back
 --     hands_shr        [own of a `&[T]`; …] → [the same; the same; …]: a `&` is Copy, so it is handed on at
 --                      its own lifetime, with its token, and the other copy is kept
 --     adds             [X; P; …] → [P, X; …]: what a parameter owns, or a token, is put before those that
@@ -21,8 +21,8 @@ use Prim.Native.Nat.{ℕ, zero, suc, ◌<◌, ◌^◌}
 use mathlib.Core.List.{List, [], ◌∷◌}
 use lib.ListN.{length}
 use seplogic.Ra.Ura.{Ura}
-use seplogic.Ra.TreeShare.{full_share}
-use mir.Syntax.{erased, Width, Name, Place, Opd as Operand, Body, seq, call}
+use base.Fraction.{full_share}
+use mir.Syntax.{erased, Width, Callee, Place, Opd as Operand, Body, seq, call}
 use mir.Val.{Val, vint, bits}
 use base.Logic.{ent, sep, emp, via, id⊢, mono_r, emp∗, comm∗, mono_l}
 use base.Fml.{Lft, GName, Share, Fml, ftrue, fsep, feq, flft, flent, fobs, fauth, fobor}
@@ -31,15 +31,16 @@ use types.Logic.{Logic, sem}
 use sound.WpLaws.{FmC}
 use contract.Monad.{fact}
 use contract.Lifetimes.{Lfts, Shares, AllOutlive, toks}
-use types.Kit.{Goal, Soaks, Item, ‵, raw, ◌⊛◌, some, later, Post, runs, lands, Seq, Step, step, ◌$◌, move, drop, use1, use2, split, join, pick, await, rewrite, fsplit, fjoin}
+use types.Kit.{Goal, Soaks, Item, ‵, raw, ◌⊛◌, some, later, Post, runs, lands, Seq, Step, step, ◌$◌, move, drop, use1, use2, use3, split, join, pick, await, rewrite, fsplit, fjoin}
 use types.Run.{Opds}
 use types.SemTy.{cells}
 use types.Tokens.{lft_new, lft_end}
-use denote.RattleType.{RattleType, owns, flat}
+use denote.RattleType.{RattleType, RowLaws, owns, flat}
 use denote.Shadow.{pure_l, pure_i}
 use denote.Laws.{Is, shows}
 use denote.Memory.{mem}
 use denote.Slice.{slice_val, MutSlice, ShrSlice, heres, Room, room, finally, shr_slice_at, mut_slice_at, coded_holeys, shr_slice_copy}
+use denote.Copied.{Copied}
 use denote.Lend.{Held}
 use denote.Index.{row, whole_in, whole_out, opens_slice, closes_slice}
 use denote.Signature.{type_at, types_at}
@@ -51,16 +52,18 @@ use denote.Triple.Entry.{Args, Vals, Res, on_entry}
 use denote.Triple.Spec.{triple_of}
 use denote.Triple.Statement.{Triple}
 use borrow.Table.Owned as O
-use borrow.Rule.Slice.Reshare.{kept_s, sl-reshare, sl_reshare_back}
-use Rattle.hand.proofs.Walk.{ref}
+use borrow.Rule.Array.Share.{share_cells}
+use borrow.Rule.Slice.Reshare.{kept_s, sl_reshare_as, sl_reshare_back}
+use Rattle.hand.proofs.Walk.{ref, look_ref}
 use Rattle.hand.proofs.Arrays.{lends_array, unlends_array}
 
 module _ (R : RattleType) (κ : Lft) (q : Share) (γ : GName) (ν : ℕ) (ys : List R.Denot) (b o : ℕ) (vs : List Val) where
   abbrev pub LentOut : GName → Fml
   LentOut δ = fsep (flent (ν ∷ []) (Held R (length ys) b o δ)) (fsep (fobor κ q (Held R (length ys) b o γ)) (fsep (fobs γ ((coded_holeys R).code (heres R ys))) (fsep (fauth γ ((coded_holeys R).code (heres R ys))) (mut_slice_at R (ref b o γ ys) vs))))
 
-  abbrev pub SharedOut : Fml
-  SharedOut = fsep (kept_s R κ q (ν ∷ []) γ ys b o) (shr_slice_at R (ref b o γ ys) vs)
+module _ {M : Type 1} {𝓤 : Ura M} (𝓛 : Logic 𝓤) (R : RattleType) (κ : Lft) (q : Share) (γ : GName) (ν : ℕ) (ys : List R.Denot) (b o : ℕ) (vs : List Val) where
+  abbrev pub SharedOut : Item 𝓤
+  SharedOut = kept_s 𝓛 R κ q (ν ∷ []) γ ys b o ⊛ ‵ (mut_slice_at R (ref b o γ ys) vs)
 
 module _ {M : Type 1} {𝓤 : Ura M} {𝓛 : Logic 𝓤} {K : Type 0} {Γ : List (Item 𝓤)} {G : Goal 𝓤 𝓛.H} where
   pub lends_mut : K → Soaks G → (R : RattleType) {κ : Lft} {q : Share} {γ : GName} (ys : List R.Denot) (b o : ℕ) {vs : List Val}
@@ -83,27 +86,28 @@ module _ {M : Type 1} {𝓤 : Ura M} {𝓛 : Logic 𝓤} {K : Type 0} {Γ : List
       move t (3 ∷ 2 ∷ 1 ∷ []) $ closes_slice t z R ys zs e b o $
       fjoin t $ pure_i t (mut_slice_at R (ref b o γ zs) vs) (tt, (tt, tt)) (p.0 ∙ ap (λ (m : ℕ). slice_val (b, o) m ∷ []) (sym e), subst (Room R) (sym e) p.1) $ fjoin t $ k e))
 
-  pub shares_mut : K → Soaks G → (R : RattleType) {κ : Lft} {q : Share} {γ : GName} (ys : List R.Denot) (b o : ℕ) {vs : List Val}
-      → ((ν : ℕ) (δ : GName) → Seq K 𝓛 (‵ ((ShrSlice erased (ν ∷ []) R).own_val (ref b o δ ys) vs) ∷ ‵ (flft (ν ∷ []) full_share) ∷ ‵ (SharedOut R κ q γ ν ys b o vs) ∷ Γ) G)
+  pub shares_mut : K → Soaks G → (R : RattleType) → RowLaws R → Copied 𝓛 R → {κ : Lft} {q : Share} {γ : GName} (ys : List R.Denot) (b o : ℕ) {vs : List Val}
+      → ((ν : ℕ) → Seq K 𝓛 (‵ ((ShrSlice erased (ν ∷ []) R).own_val (look_ref b o ys) vs) ∷ ‵ (flft (ν ∷ []) full_share) ∷ SharedOut 𝓛 R κ q γ ν ys b o vs ∷ Γ) G)
       → Seq K 𝓛 (‵ ((MutSlice erased κ R).own_val (ref b o γ ys) vs) ∷ ‵ (flft κ q) ∷ Γ) G
-  shares_mut t z R {κ} {q} {γ} ys b o {vs} k =
-      lft_new t z (λ ν. move t (1 ∷ 2 ∷ []) $ fsplit t $ pure_l t (shr_slice_at R (ref b o γ ys) vs) (λ p. pure_i t (room R (length ys)) (tt, tt) p.1 $ fjoin t $
-      use2 𝓛 (later (some (λ (δ : GName). ‵ ((O.ShrSlice erased (ν ∷ []) R).own (ref b o δ ys)) ⊛ ‵ (kept_s R κ q (ν ∷ []) γ ys b o)))) (sl-reshare 𝓛 R κ q (ν ∷ []) b o γ ys) $ await t z $ pick t (λ δ. split t $
-      fsplit t $ drop t $ pure_i t (shr_slice_at R (ref b o δ ys) vs) (tt, (tt, tt)) p $ fjoin t $
+  shares_mut t z R laws c {κ} {q} {γ} ys b o {vs} k =
+      lft_new t z (λ ν. move t (1 ∷ 2 ∷ 0 ∷ []) $ fsplit t $ pure_l t (mut_slice_at R (ref b o γ ys) vs) (λ p. pure_i t (room R (length ys)) (tt, tt) p.1 $ fjoin t $
+      use3 𝓛 (later (‵ ((O.ShrSlice erased (ν ∷ []) R).own_val (look_ref b o ys)) ⊛ (kept_s 𝓛 R κ q (ν ∷ []) γ ys b o ⊛ ‵ (flft (ν ∷ []) full_share))))
+      (sl_reshare_as 𝓛 R κ q (ν ∷ []) b o γ (𝓛.A.lft (ν ∷ []) full_share) (λ zs room n. share_cells 𝓛 R (ν ∷ []) b laws (ν ∷ []) (c.shares full_share (ν ∷ [])) ((ν ∷ [], full_share) ∷ []) (λ x m. m) (λ x m. m) zs o room n) ys) $ await t z $ split t $ move t (1 ∷ []) $ split t $ move t (2 ∷ []) $
+      fsplit t $ drop t $ pure_i t (shr_slice_at R (look_ref b o ys) vs) (tt, (tt, tt)) p $ fjoin t $
       -- [the new slice; what is kept; ν's token]
-      pure_i t (shr_slice_at R (ref b o γ ys) vs) (tt, (tt, tt)) p $ move t (2 ∷ 0 ∷ []) $ fjoin t $ move t (1 ∷ 2 ∷ 0 ∷ []) $ k ν δ)))
+      pure_i t (mut_slice_at R (ref b o γ ys) vs) (tt, (tt, tt)) p $ move t (2 ∷ 0 ∷ []) $ join t $ move t (1 ∷ 2 ∷ 0 ∷ []) $ k ν))
 
   pub unshares_mut : K → Soaks G → (R : RattleType) {κ : Lft} {q : Share} {γ : GName} {ν : ℕ} (ys : List R.Denot) (b o : ℕ) {vs : List Val}
-      → Step K 𝓛 (‵ ((MutSlice erased κ R).own_val (ref b o γ ys) vs) ∷ ‵ (flft κ q) ∷ Γ) G (‵ (flft (ν ∷ []) full_share) ∷ ‵ (SharedOut R κ q γ ν ys b o vs) ∷ Γ) G
+      → Step K 𝓛 (‵ ((MutSlice erased κ R).own_val (ref b o γ ys) vs) ∷ ‵ (flft κ q) ∷ Γ) G (‵ (flft (ν ∷ []) full_share) ∷ SharedOut 𝓛 R κ q γ ν ys b o vs ∷ Γ) G
   unshares_mut t z R {κ} {q} {γ} {ν} ys b o {vs} = step (λ s.
-      lft_end t z $ move t (1 ∷ []) $ fsplit t $ move t (1 ∷ []) $ pure_l t (mut_slice_at R (ref b o γ ys) vs) (λ p. move t (1 ∷ 0 ∷ []) $
-      use2 𝓛 (later (‵ ((O.MutSlice erased κ R).own (ref b o γ ys)) ⊛ ‵ (flft κ q))) (sl_reshare_back 𝓛 R κ q (ν ∷ []) b o γ ys) $ await t z $ split t $
+      lft_end t z $ move t (1 ∷ []) $ split t $ move t (1 ∷ []) $ pure_l t (mut_slice_at R (ref b o γ ys) vs) (λ p. move t (1 ∷ 0 ∷ []) $
+      use2 𝓛 (later (‵ ((O.MutSlice erased κ R).own_val (ref b o γ ys)) ⊛ ‵ (flft κ q))) (sl_reshare_back 𝓛 R κ q (ν ∷ []) b o γ ys) $ await t z $ split t $
       fsplit t $ drop t $ pure_i t (mut_slice_at R (ref b o γ ys) vs) (tt, (tt, tt)) p $ fjoin t $ s))
 
-  pub hands_shr : K → (R : RattleType) {κ : Lft} {γ : GName} (ys : List R.Denot) (b o : ℕ) {vs : List Val}
-      → Step K 𝓛 (‵ ((ShrSlice erased κ R).own_val (ref b o γ ys) vs) ∷ ‵ ((ShrSlice erased κ R).own_val (ref b o γ ys) vs) ∷ Γ) G (‵ ((ShrSlice erased κ R).own_val (ref b o γ ys) vs) ∷ Γ) G
-  hands_shr t R {κ} {γ} ys b o {vs} = step (λ s.
-      use1 𝓛 (‵ ((ShrSlice erased κ R).own_val (ref b o γ ys) vs) ⊛ ‵ ((ShrSlice erased κ R).own_val (ref b o γ ys) vs)) ((shr_slice_copy 𝓛 erased κ R).twice (ref b o γ ys) vs) $ split t $ s)
+  pub hands_shr : K → (R : RattleType) → RowLaws R → (κ : Lft) (ys : List R.Denot) (b o : ℕ) {vs : List Val}
+      → Step K 𝓛 (‵ ((ShrSlice erased κ R).own_val (look_ref b o ys) vs) ∷ ‵ ((ShrSlice erased κ R).own_val (look_ref b o ys) vs) ∷ Γ) G (‵ ((ShrSlice erased κ R).own_val (look_ref b o ys) vs) ∷ Γ) G
+  hands_shr t R laws κ ys b o {vs} = step (λ s.
+      use1 𝓛 (‵ ((ShrSlice erased κ R).own_val (look_ref b o ys) vs) ⊛ ‵ ((ShrSlice erased κ R).own_val (look_ref b o ys) vs)) ((shr_slice_copy 𝓛 erased κ R laws).twice (look_ref b o ys) vs) $ split t $ s)
 
 module _ {M : Type 1} {𝓤 : Ura M} {𝓛 : Logic 𝓤} {K : Type 0} {Γ : List (Item 𝓤)} {G : Goal 𝓤 𝓛.H} {X : Fml} where
   pub adds : K → {P : Fml} → Step K 𝓛 (‵ (fsep P X) ∷ Γ) G (‵ X ∷ ‵ P ∷ Γ) G
@@ -130,7 +134,7 @@ module _ {M : Type 1} {𝓤 : Ura M} (𝓛 : Logic 𝓤) where
   tok_out zero κs qs = id⊢ 𝓤 (emp 𝓤)
   tok_out (suc n) κs qs = mono_r 𝓤 (A.lft κs.0 qs.0) (tok_out n κs.1 qs.1)
 
-module _ {M : Type 1} {𝓤 : Ura M} {𝓛 : Logic 𝓤} {K : Type 0} {Γ : List (Item 𝓤)} {E : Env 𝓤 𝓛.H} {C : Calls 𝓤 𝓛.H} {Λ : Loops 𝓤 𝓛.H} {f : Name} {xs : List Operand} {rest : Body} {d : Place} {p : Post 𝓤 𝓛.H} where
+module _ {M : Type 1} {𝓤 : Ura M} {𝓛 : Logic 𝓤} {K : Type 0} {Γ : List (Item 𝓤)} {E : Env 𝓤 𝓛.H} {C : Calls 𝓤 𝓛.H} {Λ : Loops 𝓤 𝓛.H} {f : Callee} {xs : List Operand} {rest : Body} {d : Place} {p : Post 𝓤 𝓛.H} where
   open 𝓛 use {H}
 
   pub calls_spec : K → FmC 𝓤 H 𝓛.laws C → (T : Ended) (c : Clauses 𝓤 T) → Triple 𝓤 (C f) (triple_of 𝓛 T.signature (closing 𝓛 T c))

@@ -19,29 +19,31 @@ use mathlib.Core.Path.{refl, ap, subst}
 use Prim.Native.Nat.{ℕ}
 use mathlib.Core.List.{List, [], ◌∷◌}
 use seplogic.Ra.Ura.{Ura}
-use seplogic.Ra.TreeShare.{full_share}
+use base.Fraction.{full_share}
 use mir.Syntax.{erased}
 use mir.Val.{Val, vptr}
-use base.Fml.{Lft, GName, Share, Fml, fsep, fat, flft, flent, fobs, fauth, fres, fobor, fshr_bor}
+use base.Fml.{Lft, GName, Share, Fml, fsep, fat, flft, flent, fobs, fauth, fres, fobor}
 use types.Logic.{Logic}
-use types.Kit.{Goal, Soaks, Item, ‵, ◌⊛◌, some, later, Seq, Step, step, ◌$◌, move, drop, use1, use2, use3, split, pick, await, rewrite, fsplit, fsplit3, fjoin, fjoin3, feq_i}
+use types.Kit.{Goal, Soaks, Item, ‵, ◌⊛◌, some, later, Seq, Step, step, ◌$◌, move, drop, use1, use2, use3, split, join, pick, await, rewrite, fsplit, fsplit3, fjoin, fjoin3, feq_i}
 use types.SemTy.{Body}
 use types.Tokens.{lft_new, lft_end}
 use denote.Laws.{Is, shows}
-use denote.Memory.{cell_at, part_at, lone, mem}
+use denote.Memory.{cell_at, part_at, hidden_shr, lone, mem}
 use denote.Ref.{MutRef, ShrRef}
 use denote.Lend.{lends_ref, ref_back}
+use denote.Opens.{Shut}
 use denote.Steps.{opens, closes, looks, shuts, only, owned, peeks, facts}
 use denote.Struct.Steps.{spelt}
 use borrow.Table.OneValue.{One, part_in, part_out}
-use Rattle.hand.proofs.Walk.{Elem, ref}
+use Rattle.hand.proofs.Walk.{Elem, ref, look_ref}
 
 module _ (E : Elem) (κ : Lft) (q : Share) (γ : GName) (x : E.row.Denot) (b o : ℕ) where
   abbrev pub LentHole : Fml
   LentHole = fsep (fobor κ q (Body (mem E.row) b o γ)) (fsep (fobs γ (E.row.coded.code x)) (fauth γ (E.row.coded.code x)))
 
-  abbrev pub ReadHole : Share → Fml
-  ReadHole q' = fsep (E.row.own_val x (E.vals x)) (fsep (fobor κ q (part_at E.row q' x b o)) (fsep (fshr_bor κ (λ s. part_at E.row s x b o)) (fres γ (E.row.coded.code x))))
+module _ {M : Type 1} {𝓤 : Ura M} (𝓛 : Logic 𝓤) (E : Elem) (κ : Lft) (q : Share) (x : E.row.Denot) (b o : ℕ) where
+  abbrev pub ReadHole : Share → Item 𝓤
+  ReadHole q' = ‵ (E.row.own_val x (E.vals x)) ⊛ (Shut 𝓛 κ q (part_at E.row q' x b o) ⊛ ‵ (hidden_shr E.row κ x b o))
 
 module _ {M : Type 1} {𝓤 : Ura M} {𝓛 : Logic 𝓤} {K : Type 0} {Γ : List (Item 𝓤)} {G : Goal 𝓤 𝓛.H} where
   pub takes_lent : K → Soaks G → (E : Elem) {κ : Lft} {q : Share} {γ : GName} (x : E.row.Denot) (b o : ℕ)
@@ -63,25 +65,24 @@ module _ {M : Type 1} {𝓤 : Ura M} {𝓛 : Logic 𝓤} {K : Type 0} {Γ : List
       owned t E.row (Is E.row) (E.makes M 𝓤 𝓛) y vs is $ move t (4 ∷ 0 ∷ 3 ∷ 1 ∷ 2 ∷ []) $ closes t z E.row y vs b o $
       feq_i t (List Val) (vptr b o ∷ []) (vptr b o ∷ []) refl $ fjoin3 t $ s)
 
-  pub takes_read : K → Soaks G → (E : Elem) {κ : Lft} {q : Share} {γ : GName} (x : E.row.Denot) (b o : ℕ)
-      → ((q' : Share) → Is E.row x (E.vals x) → Seq K 𝓛 (‵ (cell_at q' E.row.mir (E.vals x) b o) ∷ ‵ (ReadHole E κ q γ x b o q') ∷ Γ) G)
-      → Seq K 𝓛 (‵ ((ShrRef erased κ E.row).own_val (ref b o γ x) (vptr b o ∷ [])) ∷ ‵ (flft κ q) ∷ Γ) G
+  pub takes_read : K → Soaks G → (E : Elem) {κ : Lft} {q : Share} (x : E.row.Denot) (b o : ℕ)
+      → ((q' : Share) → Is E.row x (E.vals x) → Seq K 𝓛 (‵ (cell_at q' E.row.mir (E.vals x) b o) ∷ ReadHole 𝓛 E κ q x b o q' ∷ Γ) G)
+      → Seq K 𝓛 (‵ ((ShrRef erased κ E.row).own_val (look_ref b o x) (vptr b o ∷ [])) ∷ ‵ (flft κ q) ∷ Γ) G
   takes_read t z E x b o k =
-      fsplit3 t $ drop t $ move t (1 ∷ 2 ∷ []) $
-      looks t z E.row (Is E.row) (shows 𝓛 E.row) E.vals E.tells (E.copies M 𝓤 𝓛) x b o (λ q' vs.
+      fsplit t $ drop t $ looks t z E.row (E.copies M 𝓤 𝓛).opens x b o (λ q' vs.
       spelt t E.row (Is E.row) (shows 𝓛 E.row) E.vals E.tells q' x vs b o $
       move t (1 ∷ []) $ peeks t E.row (Is E.row) (shows 𝓛 E.row) x (E.vals x) (λ g.
-      -- [what the struct owns; the cell; what shuts it; the fractured borrow; res]
-      move t (3 ∷ 4 ∷ []) $ fjoin t $ move t (3 ∷ 0 ∷ []) $ fjoin t $ move t (1 ∷ 0 ∷ []) $ fjoin t $ move t (1 ∷ 0 ∷ []) $ k q' g))
+      -- [what the struct owns; the cell; what shuts it; what it is held by]
+      move t (2 ∷ 3 ∷ []) $ join t $ move t (1 ∷ 0 ∷ []) $ join t $ move t (1 ∷ 0 ∷ []) $ k q' g))
 
-  pub gives_read : K → Soaks G → (E : Elem) {κ : Lft} {q : Share} {γ : GName} (x : E.row.Denot) (b o : ℕ) (q' : Share)
-      → Step K 𝓛 (‵ ((ShrRef erased κ E.row).own_val (ref b o γ x) (vptr b o ∷ [])) ∷ ‵ (flft κ q) ∷ Γ) G
-      (‵ (cell_at q' E.row.mir (E.vals x) b o) ∷ ‵ (ReadHole E κ q γ x b o q') ∷ Γ) G
+  pub gives_read : K → Soaks G → (E : Elem) {κ : Lft} {q : Share} (x : E.row.Denot) (b o : ℕ) (q' : Share)
+      → Step K 𝓛 (‵ ((ShrRef erased κ E.row).own_val (look_ref b o x) (vptr b o ∷ [])) ∷ ‵ (flft κ q) ∷ Γ) G
+      (‵ (cell_at q' E.row.mir (E.vals x) b o) ∷ ReadHole 𝓛 E κ q x b o q' ∷ Γ) G
   gives_read t z E x b o q' = step (λ s.
-      move t (1 ∷ []) $ fsplit t $ move t (1 ∷ []) $ fsplit t $ move t (1 ∷ []) $ fsplit t $
-      -- [the fractured borrow; res; what shuts it; what the struct owns; the cell]
-      move t (4 ∷ 3 ∷ 2 ∷ []) $ shuts t z E.row q' x (E.vals x) b o $
-      feq_i t (List Val) (vptr b o ∷ []) (vptr b o ∷ []) refl $ move t (0 ∷ 3 ∷ 2 ∷ []) $ fjoin3 t $ s)
+      move t (1 ∷ []) $ split t $ move t (1 ∷ []) $ split t $
+      -- [what shuts it; what it is held by; what the struct owns; the cell]
+      move t (3 ∷ 2 ∷ 0 ∷ []) $ shuts t z E.row q' x (E.vals x) b o $
+      feq_i t (List Val) (vptr b o ∷ []) (vptr b o ∷ []) refl $ move t (0 ∷ 2 ∷ []) $ fjoin t $ s)
 
   pub lends_struct : K → Soaks G → (E : Elem) → One E.row → (x : E.row.Denot) (b o : ℕ) (v : Val) → Is E.row x (v ∷ [])
       → ((ν : ℕ) (δ : GName) → Seq K 𝓛 (‵ ((MutRef erased (ν ∷ []) E.row).own_val (ref b o δ x) (vptr b o ∷ [])) ∷ ‵ (flft (ν ∷ []) full_share) ∷ ‵ (flent (ν ∷ []) (Body (mem E.row) b o δ)) ∷ Γ) G)

@@ -5,7 +5,8 @@
 --     num w            the unsigned integer of w bits
 --     struct_of T      a struct that a crate declares, from what the check writes of it: `the_type`,
 --                      `the_laws`, `the_copy`, `the_plain`
---     ref b o γ x      the reference value: pointer, ghost name, what lies behind it
+--     ref b o γ x      the value of a `&mut`: pointer, ghost name, what lies behind it
+--     look_ref b o x   the value of a `&`, which has no ghost name
 --     takes_shr        [own of a `&κ [T]`; κ's token; …] → [a share of element i's cell, at the address that
 --                      MIR computes; what else was opened; …]
 --     gives_shr        the way back
@@ -31,26 +32,27 @@ use mathlib.Core.Option.{Option, some, none}
 use mathlib.Core.List.{List, [], ◌∷◌, ◌++◌}
 use lib.ListN.{length, get_or, set, take, length-set}
 use seplogic.Ra.Ura.{Ura}
-use seplogic.Ra.TreeShare.{full_share}
+use base.Fraction.{full_share}
 use mir.Syntax.{erased, Width, Ty, Body, Local, local, loop}
 use mir.Val.{Val}
 use base.Logic.{SProp, ent, sep, emp, never, guard, id⊢, via, comm∗, assoc∗, assoc', mono_l, mono_r, fst∗, snd∗, emp∗, never_e, guard_i, guard_e}
-use base.Fml.{Lft, GName, Share, Fml, fsep, fat, froom, fdies, flft, fobs, fauth, fres, fobor, fshr_bor}
+use base.Fml.{Lft, GName, Share, Fml, fsep, fat, froom, fdies, flft, fobs, fauth, fobor, fhide}
 use prog.Wp.{Heap, Out, Env, Wp, Tables, after_turn, release}
 use types.Logic.{Logic}
 use sound.Loop.{unroll}
 use sound.WpLaws.{Wp-mono, after_turn_mono}
-use types.Kit.{Goal, Soaks, Item, ‵, mean, ⋆, push, pop, ⊢++, sel⊢, aim, Seq, Step, step, frees, ◌$◌, move, drop, rewrite, fsplit, fjoin}
-use types.Share.{arr_parts}
+use types.Kit.{Goal, Soaks, Item, ‵, ◌⊛◌, mean, ⋆, push, pop, ⊢++, sel⊢, aim, Seq, Step, step, frees, ◌$◌, move, drop, rewrite, split, join, fsplit, fjoin}
 use denote.RattleType.{RattleType}
 use denote.Shadow.{pure_l, pure_i}
-use denote.Laws.{Is, Tells, Copy, Makes, shows}
+use denote.Laws.{Is, Tells, Makes, shows}
+use denote.Copied.{Copied, uint_Copied}
+use denote.Opens.{Shut}
 use denote.Memory.{cell_at, mem, shares}
-use denote.Plain.{UInt, uint_vals, uint_Tells, uint_copy, uint_Makes}
-use denote.Ref.{MutBor}
-use denote.Slice.{slice_val, MutSlice, ShrSlice, heres, Room, mut_slice_at, coded_holeys}
+use denote.Plain.{UInt, uint_vals, uint_Tells, uint_Makes}
+use denote.Ref.{Bor, MutBor}
+use denote.Slice.{slice_val, MutSlice, ShrSlice, heres, Room, mut_slice_at, shr_slice_at, coded_holeys, elements_shared}
 use denote.Lend.{Held}
-use denote.Index.{place_is, others, elem_out, elem_back, elem_put, opens_slice, closes_slice, looks_slice, shuts_slice}
+use denote.Index.{place_is, row, others, elem_out, elem_back, elem_put, opens_slice, closes_slice, looks_slice, shuts_slice}
 use denote.Steps.{owned}
 use denote.Struct.Struct.{Plains}
 use denote.Struct.Declared.{Declared, fields, row as row_of}
@@ -60,52 +62,55 @@ pub record Elem : Type 2 where
   pub row : RattleType
   pub vals : row.Denot → List Val
   pub tells : Tells row (Is row) vals
-  pub copies : (M : Type 1) (𝓤 : Ura M) (𝓛 : Logic 𝓤) → Copy 𝓛 row
+  pub copies : (M : Type 1) (𝓤 : Ura M) (𝓛 : Logic 𝓤) → Copied 𝓛 row
   pub makes : (M : Type 1) (𝓤 : Ura M) (𝓛 : Logic 𝓤) → Makes 𝓛 row (Is row)
 
 abbrev pub num : Width → Elem
-num w = record { row = UInt w; vals = uint_vals w; tells = uint_Tells w; copies = λ M 𝓤 𝓛. uint_copy 𝓛 w; makes = λ M 𝓤 𝓛. uint_Makes 𝓛 w }
+num w = record { row = UInt w; vals = uint_vals w; tells = uint_Tells w; copies = λ M 𝓤 𝓛. uint_Copied 𝓛 w; makes = λ M 𝓤 𝓛. uint_Makes 𝓛 w }
 
 abbrev pub struct_of : (T : Declared) → LL.Laws T → LL.Copyables T.parts → Plains (fields T) → Elem
-struct_of T laws copied plain = record { row = row_of T; vals = LL.vals T laws; tells = LL.tells T laws; copies = λ M 𝓤 𝓛. LL.copy T copied 𝓛; makes = λ M 𝓤 𝓛. LL.makes T plain 𝓛 }
+struct_of T laws copied plain = record { row = row_of T; vals = LL.vals T laws; tells = LL.tells T laws; copies = λ M 𝓤 𝓛. LL.copied T copied 𝓛; makes = λ M 𝓤 𝓛. LL.makes T plain 𝓛 }
 
 abbrev pub ref : {X : Type 0} → ℕ → ℕ → GName → X → MutBor X
 ref b o γ x = record { ref_ptr = (b, o); ghost_name = γ; now = x }
 
--- what is left of an opened slice while one element is out
-module _ (E : Elem) (κ : Lft) (q : Share) (γ : GName) (ys : List E.row.Denot) (b o : ℕ) (vs : List Val) (i : ℕ) (d : E.row.Denot) where
-  abbrev pub ShrHole : Share → Fml
-  ShrHole q' = fsep (E.row.own_val (get_or ys i d) (E.vals (get_or ys i d))) (fsep (others (shares E.row) q' ys i b o)
-      (fsep (fobor κ q ((arr_parts (shares E.row) (length ys)).part q' ys b o)) (fsep (fshr_bor κ (λ s. (arr_parts (shares E.row) (length ys)).part s ys b o))
-      (fsep (mut_slice_at E.row (ref b o γ ys) vs) (fres γ ((coded_holeys E.row).code (heres E.row ys)))))))
+abbrev pub look_ref : {X : Type 0} → ℕ → ℕ → X → Bor X
+look_ref b o x = record { ref_ptr = (b, o); now = x }
 
+-- what is left of an opened slice while one element is out
+module _ {M : Type 1} {𝓤 : Ura M} (𝓛 : Logic 𝓤) (E : Elem) (κ : Lft) (q : Share) (ys : List E.row.Denot) (b o : ℕ) (vs : List Val) (i : ℕ) (d : E.row.Denot) where
+  abbrev pub ShrHole : Share → Item 𝓤
+  ShrHole q' = ‵ (E.row.own_val (get_or ys i d) (E.vals (get_or ys i d))) ⊛ (‵ (others (shares E.row) q' ys i b o)
+      ⊛ (Shut 𝓛 κ q (row E.row q' ys b o) ⊛ (‵ (fhide (elements_shared E.row ys b o κ)) ⊛ ‵ (shr_slice_at E.row (look_ref b o ys) vs))))
+
+module _ (E : Elem) (κ : Lft) (q : Share) (γ : GName) (ys : List E.row.Denot) (b o : ℕ) (vs : List Val) (i : ℕ) (d : E.row.Denot) where
   abbrev pub MutHole : Fml
   MutHole = fsep (others (shares E.row) full_share ys i b o) (fsep (fobor κ q (Held E.row (length ys) b o γ)) (fsep (fobs γ ((coded_holeys E.row).code (heres E.row ys)))
       (fsep (fauth γ ((coded_holeys E.row).code (heres E.row ys))) (mut_slice_at E.row (ref b o γ ys) vs))))
 
 module _ {M : Type 1} {𝓤 : Ura M} {𝓛 : Logic 𝓤} {K : Type 0} {Γ : List (Item 𝓤)} {G : Goal 𝓤 𝓛.H} where
-  pub takes_shr : K → Soaks G → (E : Elem) {κ : Lft} {q : Share} {γ : GName} (ys : List E.row.Denot) (b o : ℕ) {vs : List Val} (i : ℕ) (d : E.row.Denot) → i < length ys
-      → ((q' : Share) → Is E.row (get_or ys i d) (E.vals (get_or ys i d)) → Seq K 𝓛 (‵ (cell_at q' E.row.mir (E.vals (get_or ys i d)) b (i * (mem E.row).size + o)) ∷ ‵ (ShrHole E κ q γ ys b o vs i d q') ∷ Γ) G)
-      → Seq K 𝓛 (‵ ((ShrSlice erased κ E.row).own_val (ref b o γ ys) vs) ∷ ‵ (flft κ q) ∷ Γ) G
+  pub takes_shr : K → Soaks G → (E : Elem) {κ : Lft} {q : Share} (ys : List E.row.Denot) (b o : ℕ) {vs : List Val} (i : ℕ) (d : E.row.Denot) → i < length ys
+      → ((q' : Share) → Is E.row (get_or ys i d) (E.vals (get_or ys i d)) → Seq K 𝓛 (‵ (cell_at q' E.row.mir (E.vals (get_or ys i d)) b (i * (mem E.row).size + o)) ∷ ShrHole 𝓛 E κ q ys b o vs i d q' ∷ Γ) G)
+      → Seq K 𝓛 (‵ ((ShrSlice erased κ E.row).own_val (look_ref b o ys) vs) ∷ ‵ (flft κ q) ∷ Γ) G
   takes_shr t z E ys b o i d l k =
-      fsplit t $ move t (1 ∷ []) $ fsplit t $ move t (1 ∷ 3 ∷ []) $
-      looks_slice t z E.row (Is E.row) (shows 𝓛 E.row) E.vals E.tells (E.copies M 𝓤 𝓛) ys b o (λ q'.
+      fsplit t $ move t (1 ∷ 2 ∷ []) $
+      looks_slice t z E.row (E.copies M 𝓤 𝓛) ys b o (λ q'.
       elem_out t E.row (Is E.row) (shows 𝓛 E.row) E.vals E.tells q' ys i d b o l (λ g.
       rewrite t 0 (λ (p : ℕ). ‵ (cell_at q' E.row.mir (E.vals (get_or ys i d)) b p)) (place_is (mem E.row).size o i) refl $
-      -- [the cell; what it owns; the others; what shuts; the fractured borrow; res; the slice's fact]
-      move t (6 ∷ 5 ∷ []) $ fjoin t $ move t (5 ∷ 0 ∷ []) $ fjoin t $ move t (4 ∷ 0 ∷ []) $ fjoin t $ move t (3 ∷ 0 ∷ []) $ fjoin t $ move t (2 ∷ 0 ∷ []) $ fjoin t $ move t (1 ∷ 0 ∷ []) $ k q' g))
+      -- [the cell; what it owns; the others; what shuts; what the elements are held by; the slice's fact]
+      move t (4 ∷ 5 ∷ []) $ join t $ move t (4 ∷ 0 ∷ []) $ join t $ move t (3 ∷ 0 ∷ []) $ join t $ move t (2 ∷ 0 ∷ []) $ join t $ move t (1 ∷ 0 ∷ []) $ k q' g))
 
-  pub gives_shr : K → Soaks G → (E : Elem) {κ : Lft} {q : Share} {γ : GName} (ys : List E.row.Denot) (b o : ℕ) {vs : List Val} (i : ℕ) (d : E.row.Denot) → i < length ys → (q' : Share)
-      → Step K 𝓛 (‵ ((ShrSlice erased κ E.row).own_val (ref b o γ ys) vs) ∷ ‵ (flft κ q) ∷ Γ) G
-      (‵ (cell_at q' E.row.mir (E.vals (get_or ys i d)) b (i * (mem E.row).size + o)) ∷ ‵ (ShrHole E κ q γ ys b o vs i d q') ∷ Γ) G
+  pub gives_shr : K → Soaks G → (E : Elem) {κ : Lft} {q : Share} (ys : List E.row.Denot) (b o : ℕ) {vs : List Val} (i : ℕ) (d : E.row.Denot) → i < length ys → (q' : Share)
+      → Step K 𝓛 (‵ ((ShrSlice erased κ E.row).own_val (look_ref b o ys) vs) ∷ ‵ (flft κ q) ∷ Γ) G
+      (‵ (cell_at q' E.row.mir (E.vals (get_or ys i d)) b (i * (mem E.row).size + o)) ∷ ShrHole 𝓛 E κ q ys b o vs i d q' ∷ Γ) G
   gives_shr t z E ys b o i d l q' = step (λ s.
-      move t (1 ∷ []) $ fsplit t $ move t (1 ∷ []) $ fsplit t $ move t (1 ∷ []) $ fsplit t $ move t (1 ∷ []) $ fsplit t $ move t (1 ∷ []) $ fsplit t $
-      -- [the slice's fact; res; the fractured borrow; what shuts; the others; what it owns; the cell]
-      move t (6 ∷ 5 ∷ 4 ∷ 3 ∷ []) $
+      move t (1 ∷ []) $ split t $ move t (1 ∷ []) $ split t $ move t (1 ∷ []) $ split t $ move t (1 ∷ []) $ split t $
+      -- [what the elements are held by; the slice's fact; what shuts; the others; what it owns; the cell]
+      move t (5 ∷ 4 ∷ 3 ∷ 2 ∷ []) $
       rewrite t 0 (λ (p : ℕ). ‵ (cell_at q' E.row.mir (E.vals (get_or ys i d)) b p)) (sym (place_is (mem E.row).size o i)) refl $
       elem_back t E.row q' ys i d (E.vals (get_or ys i d)) b o l $ shuts_slice t z E.row q' ys b o $
-      -- [the token; the slice's fact; res; the fractured borrow]
-      move t (2 ∷ 3 ∷ []) $ fjoin t $ move t (2 ∷ 0 ∷ []) $ fjoin t $ s)
+      -- [the token; what the elements are held by; the slice's fact]
+      move t (2 ∷ 1 ∷ []) $ fjoin t $ s)
 
   pub takes_mut : K → Soaks G → (E : Elem) {κ : Lft} {q : Share} {γ : GName} (ys : List E.row.Denot) (b o : ℕ) {vs : List Val} (i : ℕ) (d : E.row.Denot) → i < length ys
       → (Is E.row (get_or ys i d) (E.vals (get_or ys i d)) → Seq K 𝓛 (‵ (cell_at full_share E.row.mir (E.vals (get_or ys i d)) b (i * (mem E.row).size + o)) ∷ ‵ (MutHole E κ q γ ys b o vs i d) ∷ Γ) G)
