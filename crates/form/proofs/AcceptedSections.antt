@@ -3,7 +3,7 @@
 -- is 0. Each section is taken off the front in turn, and its entries pass the checks of the question from
 -- numbers. Assumes nothing.
 --     no_entries         a section of one line has no entries
---     pairs_said, singles-said    a section whose entries have two numbers says the pairs of its numbers; one
+--     pairs_said, singles_said    a section whose entries have two numbers says the pairs of its numbers; one
 --                        whose entries have one number says them one by one
 --     DwellRead          contents are those of a dwell, or of none
 --     CarriersRead       contents are those of moves and an order, checked behind so many nodes and the

@@ -4,7 +4,7 @@
 -- nothing.
 --     carrier_line_lem       with m lanes, carrier i stands in line 4 + m + i where nothing is closed, and as
 --                        many lines further down as the closed nodes' section has (`closed_lines`) otherwise
---     none_closed, some-closed    how many it has, by the count of the closed nodes
+--     none_closed, some_closed    how many it has, by the count of the closed nodes
 --     carrier_written    in the text of a job that line has the carrier's start and goal
 --     dwell_lines         how many lines the dwell has: one, or none where it is 0
 --     job_lines          how many lines the text of a job has

@@ -9,7 +9,7 @@
 --     TextNumber       a number with which a text may be refused: 1 to 5, 7, 12 or 13
 --     check_numbers    the number of a check that holds is 3, 4, 5, 7, 12 or 13
 --     decides          each check of an entry is decided
---     nodes_steady, lanes-steady, closed-steady, carriers-steady, order-steady    those of each section of a
+--     nodes_steady, lanes_steady, closed_steady, carriers_steady, order_steady    those of each section of a
 --                      job text look only at the numbers up to their entry's own
 use mathlib.Core.Path.{◌≡◌, refl, sym, ◌∙◌}
 use mathlib.Core.Logic.{inl, inr, ◌≢◌}

@@ -1,13 +1,13 @@
 -- Texts with closed nodes, and what the definitions say of them (rules 7.17, 8.2, 8.12 and 8.13): one is
 -- accepted as its job; a count that does not fit, a closed node that is none or stands twice, a closed start
 -- and a section in the wrong place are refused with their number at their line.
---     closed_text, closed-written    the text of rule 7.17, and that it is the written form of its job
+--     closed_text, closed_written    the text of rule 7.17, and that it is the written form of its job
 --     closed_read_lem                    so it is accepted as this job
---     closed_none, many-closed       `CLOSED 0` and `CLOSED 1025` are 2 at their line
+--     closed_none, many_closed       `CLOSED 0` and `CLOSED 1025` are 2 at their line
 --     closed_no_node                 the closed node 2 of nodes 0 and 1 is 12 at its line
 --     closed_again                   a closed node that stands twice is 12 at the second line
 --     closed_start                   a move from a closed node is 13 at its line
---     closed_twice, closed-late      a second section, or one behind the carriers, is 1 at its line
+--     closed_twice, closed_late      a second section, or one behind the carriers, is 1 at its line
 use mathlib.Core.Path.{◌≡◌, refl, ap}
 use mathlib.Core.Logic.{inl, inr}
 use mathlib.Core.List.{List, [], ◌∷◌, ◌++◌}

@@ -4,7 +4,7 @@
 --     Plain           each byte of a word is 48 or more
 --     Breaks          a text is at its end, or its first byte is below 48
 --     cut_unique      there is one cut of a text into plain bytes and a break
---     digits_plain    the digits of a number are plain; zero-alone none follows a first 0
+--     digits_plain    the digits of a number are plain; zero_alone none follows a first 0
 --     NumberFirst     a text begins with the digits of a number, which end there; `number?` decides it,
 --                     `numbers_unique` says that it is one number
 use mathlib.Core.Path.{◌≡◌, refl, sym, ◌∙◌, ap}

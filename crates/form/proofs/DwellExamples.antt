@@ -2,10 +2,10 @@
 -- line more is accepted as its job with this dwell; a count that does not fit, a leading zero, a second line
 -- and a line in the wrong place are refused with their number at their line.
 --     with_line                    a text with the bytes of `DWELL 2` behind it
---     dwell_text, dwell-written    the text of rule 7.14 with `DWELL 2` behind it, and that it is the written
+--     dwell_text, dwell_written    the text of rule 7.14 with `DWELL 2` behind it, and that it is the written
 --                                  form of its job with dwell 2
 --     dwell_read                   so it is accepted as this job
---     dwell_zero, long-dwell       `DWELL 0` and `DWELL 256` are 2 at their line
+--     dwell_zero, long_dwell       `DWELL 0` and `DWELL 256` are 2 at their line
 --     dwell_leading_zero           `DWELL 02` is 1 at its line
 --     behind_dwell                 whatever stands behind the line is 1 at the line that it begins
 --     dwell_twice                  so a second line is

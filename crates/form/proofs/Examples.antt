@@ -3,9 +3,9 @@
 -- move with two faults, a missing line, a missing line feed and bytes that are left over are refused with
 -- their number at their line. Each is a closed case. Texts with closed nodes are in ClosedExamples.antt, with
 -- a dwell in DwellExamples.antt.
---     example_text, example-written    the text of rule 7.14, and that it is the written form of its job
+--     example_text, example_written    the text of rule 7.14, and that it is the written form of its job
 --     example_read                     so it is accepted as this job
---     no_nodes, many-nodes             `NODES 0` and `NODES 1025` are 2 at line 1
+--     no_nodes, many_nodes             `NODES 0` and `NODES 1025` are 2 at line 1
 --     no_second_digit                  a count of two digits does not begin with 0
 --     leading_zero                     so `NODES 01` is 1 at line 1, whatever is behind it
 --     falling_lane                     the lane `1 0` is 3 at its line
@@ -18,7 +18,7 @@
 use mathlib.Core.Path.{◌≡◌, refl, sym, ◌∙◌, ap}
 use mathlib.Core.Logic.{inl}
 use mathlib.Core.List.{List, [], ◌∷◌, ◌++◌, append_assoc}
-use Prim.Native.Nat.{ℕ, ◌+◌, ◌≤◌}
+use Prim.Native.Nat.{ℕ, ◌≤◌}
 use native.Mathlib.Omega.{arith}
 use lib.ListN.{length, length-append, get_or}
 use Rattle.hall.specs.Floor.{network_of}

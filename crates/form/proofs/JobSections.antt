@@ -3,14 +3,14 @@
 -- together to a job without loss, and the contents of a job tell the job. A section that may be missing is
 -- there by cases, where it stands and where it does not. Assumes nothing.
 --     closed_read        the closed nodes' section by its entries; it does not stand with none
---     closed_stands     so it is, where it stands; dwell-stands so is the dwell's, which has no entries
---     nodes_read, closed-read, carriers-read    what the checks of later sections ask for
+--     closed_stands     so it is, where it stands; dwell_stands so is the dwell's, which has no entries
+--     nodes_read, closed_read, carriers_read    what the checks of later sections ask for
 --     job_sections       the sections of a job text by their entries, those of the closed nodes and of the
 --                       dwell where they stand
---     job_in_lem            the job that they say; closed-count how many closed nodes
+--     job_in_lem            the job that they say; closed_count how many closed nodes
 --     sections_said     the contents of a job are such sections
 --     job_in_contents   the job that the contents of a job say is this job
---     closed_said, carriers-said    the counts that they have
+--     closed_said, carriers_said    the counts that they have
 use mathlib.Core.Path.{◌≡◌, refl, sym, ◌∙◌, ap}
 use mathlib.Core.List.{List, [], ◌∷◌, ◌++◌}
 use Prim.Native.Nat.{ℕ, zero, suc, ◌≤◌}

@@ -1,7 +1,7 @@
 -- A line has one reading: the text in front of which it stands tells its word, its numbers and the rest.
 -- Behind each word or number stands a space or a line feed, which breaks it off (Cuts.antt). Assumes nothing
 -- but that words are plain.
---     further_unique, entry-unique, count-unique    of the further numbers of a line, of a line of numbers,
+--     further_unique, entry_unique, count_unique    of the further numbers of a line, of a line of numbers,
 --                                                   of a line of a word and a count
 --     ..-length                                     how many bytes they have at most
 use mathlib.Core.Path.{◌≡◌, refl, sym, ◌∙◌}

@@ -3,7 +3,7 @@
 -- would come next. Assumes that the words of the sections are plain and differ (`Told`).
 --     Lined            contents have plain words, so that each line has one line feed
 --     lined_append     two of them, one behind the other
---     written_feeds    as many line feeds as lines; written-whole the last byte is one
+--     written_feeds    as many line feeds as lines; written_whole the last byte is one
 --     line_is          behind written contents comes the line that follows theirs
 --     refused_line     so where a text is refused
 use mathlib.Core.Path.{◌≡◌, refl, sym, ◌∙◌, ap}

@@ -3,21 +3,21 @@
 -- stand's contents. Each line that it passes is one step below, each answer one of the two ends. No step
 -- looks back at an earlier line and none looks at a later section. Assumes nothing.
 --     at_start           a reader begins at line 1 with the whole text
---     past_count         a line of a word and a count that fits was read; past-entry a line of an entry that
+--     past_count         a line of a word and a count that fits was read; past_entry a line of an entry that
 --                        passes
---     count_refused      such a line was read, and its count does not fit; entry-refused its entry fails a
+--     count_refused      such a line was read, and its count does not fit; entry_refused its entry fails a
 --                        check
---     count_lacking      there is no line of any section that may come next, nor the end; entry-lacking no
+--     count_lacking      there is no line of any section that may come next, nor the end; entry_lacking no
 --                        line of an entry
 --     first_lacking      there is no line of the section that must come next
 --     NoneStands         none of these sections has the line of its count at the front of a text
---     left-over          no section that is left stands, and there are bytes left
+--     left_over          no section that is left stands, and there are bytes left
 --     at_end             the text ends where it may
 use mathlib.Core.Path.{◌≡◌, refl, sym, ◌∙◌, ap, subst}
 use mathlib.Core.Logic.{inl, inr}
 use mathlib.Core.List.{List, [], ◌∷◌, ◌++◌, append_assoc, append-nil}
 use mathlib.Core.Bool.{true, false}
-use Prim.Native.Nat.{ℕ, suc, ◌+◌, ◌<◌}
+use Prim.Native.Nat.{ℕ, suc, ◌<◌}
 use native.Mathlib.Omega.{arith}
 use lib.ListN.{length}
 use Rattle.hall.specs.declared.Fault.TheVariants.{Malformed, BadCount}

@@ -6,13 +6,13 @@
 --     reads_unique       it is one of the two in one way
 --     reading            the answer alone
 --     reading_exactly    it is what the text says
---     read-back          contents that are written are read as what they were
+--     read_back          contents that are written are read as what they were
 --     write_back         what is read is written as the text was
 --     refusal_numbers    a text is refused with 1 to 5, 7, 12 and 13 only (rule 8.21)
 use mathlib.Core.Path.{◌≡◌, refl, sym, ◌∙◌, ap}
 use mathlib.Core.Logic.{◌⊎◌, inl, inr, ◌↔◌}
 use mathlib.Core.List.{List, [], ◌∷◌, ◌++◌}
-use Prim.Native.Nat.{ℕ, zero, suc, ◌+◌, ◌≤◌, ◌<◌}
+use Prim.Native.Nat.{ℕ, zero, suc, ◌≤◌, ◌<◌}
 use native.Mathlib.Nat.{le_refl}
 use native.Mathlib.Omega.{arith}
 use lib.ListN.{length, length-append}

@@ -1,14 +1,14 @@
 -- Lists of numbers as entries and back: two numbers a row, or one. Nothing is lost, and a row's numbers have
 -- a written form if the list's have. Assumes nothing.
 --     ByTwos                        the numbers of a list go by twos
---     pairs_back, singles-back      the numbers of the entries are the list's again; ..-count how many
+--     pairs_back, singles_back      the numbers of the entries are the list's again; .._count how many
 --                                   entries; ..-rows each has its numbers
---     rows_pairs, rows-singles      entries with two numbers each, or one, are those of their numbers
---     pairs_next, singles-next      the entries of the first numbers, and one entry more
+--     rows_pairs, rows_singles      entries with two numbers each, or one, are those of their numbers
+--     pairs_next, singles_next      the entries of the first numbers, and one entry more
 --     pairs_whole                   an odd last number is in no entry, so that the list without it has the
 --                                   same
 --     small_by                      a list's numbers are small, by their places
---     whole_section, section-whole  a section without a fault, by the checks of its whole list
+--     whole_section, section_whole  a section without a fault, by the checks of its whole list
 use mathlib.Core.Path.{◌≡◌, refl, ap}
 use mathlib.Core.List.{List, [], ◌∷◌, ◌++◌}
 use Prim.Native.Nat.{ℕ, zero, suc, ◌*◌, ◌/◌, ◌%◌, ◌<◌}

@@ -12,7 +12,7 @@
 --     not_both            no text is accepted and refused
 use mathlib.Core.Path.{◌≡◌, refl, sym, ◌∙◌, ap, subst}
 use mathlib.Core.List.{List, [], ◌++◌, append_assoc, append-nil}
-use Prim.Native.Nat.{ℕ, suc, ◌+◌}
+use Prim.Native.Nat.{ℕ, suc}
 use native.Mathlib.Omega.{arith}
 use lib.ListN.{length, length-append}
 use Rattle.form.specs.Sections.{Content, Form}
@@ -42,10 +42,10 @@ pub record Same (a b : Stand) (r q : List ℕ) (m n : ℕ) : Type 0 where
 module _ (F : Form) where
   -- ---- fine stands are run to
 
-  run_snoc : {from to st : Stand} {line rest t : List ℕ} {n : ℕ} → NextLine F from line to → PassesAt to
+  run_snoc : {from to : Stand} {line rest : List ℕ} {st : Stand} {t : List ℕ} {n : ℕ} → NextLine F from line to → PassesAt to
       → Run F from (line ++ rest) st t n
       → Run F to rest st t (suc n)
-  run_snoc {from} {to} {st} {line} {rest} x p rests = goes from to line rest (line ++ rest) 0 refl x p rests
+  run_snoc {from} {to} {line} {rest} x p rests = goes from to line rest (line ++ rest) 0 refl x p rests
   run_snoc x p (goes st to line t whole n e y q r) = goes st to line t whole (suc n) e y q (run_snoc x p r)
 
   pub fine_run : {st : Stand} → Fine F st → (rest : List ℕ)
@@ -77,7 +77,7 @@ module _ (F : Form) where
     halt_next (ended h e) p q = no_line t x e q
     halt_next (stopped f h) p q = stop_next f h p q
 
-  pub run_unique : {st a b : Stand} {t r q : List ℕ} {m n : ℕ} → Told (behind F st) → Run F a r st t m
+  pub run_unique : {a b : Stand} {r q : List ℕ} {st : Stand} {t : List ℕ} {m n : ℕ} → Told (behind F st) → Run F a r st t m
       → Run F b q st t n
       → Halts F a r → Halts F b q → Same a b r q m n
   run_unique told rests rests h k = record { stands = refl; rests_so = refl; lines = refl }

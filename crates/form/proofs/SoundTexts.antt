@@ -2,15 +2,15 @@
 -- a text may end; and the other way round. Forwards the lines are put one behind the other; backwards what
 -- follows a stand is handed on to the stand before it. Assumes nothing.
 --     Finished         contents are those of a stand with fine lines before it, where a text may end
---     sound_finished, finished-sound    the two directions
-use mathlib.Core.Path.{◌≡◌, refl, sym, ◌∙◌}
+--     sound_finished, finished_sound    the two directions
+use mathlib.Core.Path.{◌≡◌, refl, sym, ◌∙◌, ap}
 use mathlib.Core.List.{List, [], ◌∷◌, ◌++◌, append_assoc, append-nil}
 use Prim.Native.Nat.{ℕ, ◌+◌}
 use native.Mathlib.Omega.{arith}
 use lib.ListN.{length, length-append}
 use Rattle.form.specs.Lines.{entry_line, count_line}
 use Rattle.form.specs.Sections.{Section, Form, Content, content, due}
-use Rattle.form.specs.Contents.{EachPasses, SoundSection, Sound, over, stands}
+use Rattle.form.specs.Contents.{Picks, EachPasses, SoundSection, Sound, over, stands}
 use Rattle.form.specs.Stands.{Stand, start, within, contents, behind, Whole, count, entry}
 use Rattle.form.specs.Stands.{Fine, nothing, onward, Ends}
 
@@ -36,25 +36,30 @@ module _ (F : Form) where
       (omega (arith, length-append before (x ∷ []))) in
       rw append_assoc at rest
 
-  sound_on : (st : Stand) (cs : List Content) → Fine F st → Whole st → Sound (contents st) (behind F st) cs
+  -- the lines of a stand are those that the contents so far say
+  sound_on : (st : Stand) (cs : List Content) {said : List Content} {left : Form}
+      → Fine F st → Whole st → contents st ≡ said → behind F st ≡ left → Sound said left cs
       → Finished F (contents st ++ cs)
-  sound_on st _ h w (over read left m) =
-      record { stand = st; fine = h; ends = (w, m); says = append-nil (contents st) }
-  sound_on st _ h w (stands read more left s n es cs p x rest) =
+  sound_on st _ h w e b (over said left m) =
+      record { stand = st; fine = h; ends = (w, rw b m); says = append-nil (contents st) }
+  sound_on st _ h w e b (stands said more left s n es cs p x rest) =
+      let picks : Picks (behind F st) s left = rw b p in
+      let sound : SoundSection (contents st) s n es = rw e x in
       let counted = onward st (within (contents st) s n [] left) (count_line s.word n) h
-      (count st s n left w p x.small) x.fits in
-      let there = entries_fine (contents st) s n left [] es counted x.passes (omega (arith, x.counted)) in
-      let f = sound_on (within (contents st) s n es left) cs there x.counted rest in
+      (count st s n left w picks sound.small) sound.fits in
+      let there = entries_fine (contents st) s n left [] es counted sound.passes (omega (arith, sound.counted)) in
+      let behind_it : contents st ++ (content s.word n es ∷ []) ≡ said ++ (content s.word n es ∷ []) =
+      ap (λ (r : List Content). r ++ (content s.word n es ∷ [])) e in
+      let f = sound_on (within (contents st) s n es left) cs there sound.counted behind_it refl rest in
       record {
         stand = f.stand;
         fine = f.fine;
         ends = f.ends;
-        says =
-            sym (append_assoc (contents st) (content s.word n es ∷ []) cs) ∙ f.says;
+        says = sym (append_assoc (contents st) (content s.word n es ∷ []) cs) ∙ f.says;
       }
 
   pub sound_finished : (cs : List Content) → Sound [] F cs → Finished F cs
-  sound_finished cs x = sound_on start cs nothing tt x
+  sound_finished cs x = sound_on start cs nothing tt refl refl x
 
   -- ---- backwards
 

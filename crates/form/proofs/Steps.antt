@@ -4,8 +4,8 @@
 --     Differs         no section of a list has this word
 --     Told            the words of sections are plain and differ: what an instance has to show
 --     next_unique     two lines at one stand in front of one text are one line
---     fault_unique    a line has one first fault; pass-or-fault it does not pass then
---     next_written    the contents behind a line are written as those before it, with the line; next-counted
+--     fault_unique    a line has one first fault; pass_or_fault it does not pass then
+--     next_written    the contents behind a line are written as those before it, with the line; next_counted
 --                     they have one line more
 use mathlib.Core.Path.{◌≡◌, refl, sym, ◌∙◌}
 use mathlib.Core.List.{List, [], ◌∷◌, ◌++◌, append_assoc, append-nil}

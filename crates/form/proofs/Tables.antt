@@ -8,7 +8,7 @@
 --     checked_entry, checked_refused    the same, by the answer of a function that checks entry k of a table
 --     collected_lacking    there is no line of an entry
 --     collected_whole      all of them: the next section's turn
---     stores_one, stores-two    how the numbers of an entry are stored
+--     stores_one, stores_two    how the numbers of an entry are stored
 use mathlib.Core.Path.{◌≡◌, refl, sym, ◌∙◌, ap}
 use mathlib.Core.List.{List, [], ◌∷◌, ◌++◌, append-nil, append_assoc}
 use Prim.Native.Nat.{ℕ, suc, ◌+◌, ◌*◌, ◌<◌}

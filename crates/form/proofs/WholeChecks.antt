@@ -5,7 +5,7 @@
 --     SameAt           two stages have the same checks at a place: there they are clear, and refuse, alike
 --     Steady           the checks of a section look only at the numbers up to their entry's own
 --     Rows             each entry has so many numbers, of one to four digits
---     line_none, none-line      the checks of the last line of entries, behind the entries before it
+--     line_none, none_line      the checks of the last line of entries, behind the entries before it
 --     each_whole, whole_each    all entries pass in turn exactly if each passes with the whole list in hand
 use mathlib.Core.Path.{◌≡◌, refl, sym, ◌∙◌, ap}
 use mathlib.Core.Logic.{◌↔◌}

@@ -5,7 +5,7 @@
 --     whole_paired     moves that go by twos are whole
 --     whole_contents   a job and its whole one say the same, and so have one text
 --     whole_written    the text of a job is the written form of its whole one
---     written_length   it has at most 47,110 bytes, and so fits into 47,142: written-fits (rule 7.6)
+--     written_length   it has at most 47,110 bytes, and so fits into 47,142: written_fits (rule 7.6)
 use mathlib.Core.Path.{◌≡◌, refl, sym, ◌∙◌, ap}
 use mathlib.Core.List.{List}
 use Prim.Native.Nat.{ℕ, ◌+◌, ◌*◌, ◌≤◌, ◌<◌}

@@ -3,8 +3,8 @@
 -- whole list; that of the closed nodes is passed over where nothing is closed, and that of the dwell where it
 -- is 0. Assumes nothing but that the moves have two numbers each.
 --     lanes_paired      lanes without the fault 2 go by twos
---     nodes_fit, lanes-few, closed-few    the counts of such a job are within their limits
---     small_lanes, small-closed, small-moves    its numbers have a written form
+--     nodes_fit, lanes_few, closed_few    the counts of such a job are within their limits
+--     small_lanes, small_closed, small_moves    its numbers have a written form
 --     contents_sound    the contents of a job without faults are without a fault
 --     written_sound     its text is their written form
 use mathlib.Core.Path.{◌≡◌, refl, sym, ◌∙◌, subst}
