@@ -73,11 +73,11 @@ impl Job {
 }
 
 // A place in the order: place 0 goes first.
-#[derive(Drop)]
+#[derive(Clone, Copy)]
 pub struct Place(pub usize);
 
 // A carrier's number.
-#[derive(Drop)]
+#[derive(Clone, Copy)]
 pub struct Carrier(pub u16);
 
 impl Place {
