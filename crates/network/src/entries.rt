@@ -13,7 +13,7 @@ use crate::lanes::check_lane;
 use hall::{Checked, Place};
 
 // Whose entries: a lane and a move have two numbers, a closed node and a place of the order have one.
-#[derive(Drop)]
+#[derive(Clone, Copy)]
 pub enum Entries {
     Lanes,
     Closed,
