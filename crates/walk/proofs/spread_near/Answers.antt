@@ -1,0 +1,22 @@
+-- Labels only fall in a round, so they only fell once another is over.
+use Rattle.std.proofs.Common.{arith}
+use Rattle.walk.proofs.WalkFalls.{only_fell_none, only_fell_then}
+use Rattle.walk.proofs.spread_near.Goals as goal
+
+pub returns-then-not-clean : goal.returns-then-not-clean
+returns-then-not-clean c = only_fell_none
+
+pub returns-then-lanes-nodes : goal.returns-then-lanes-nodes
+returns-then-lanes-nodes c = only_fell_none
+
+pub loop-far-init : goal.loop-far-init
+loop-far-init c = (only_fell_none, omega arith)
+
+pub returns-then-fell-before : goal.returns-then-fell-before
+returns-then-fell-before c = only_fell_then c.loop-far.invariant.0 c.spread-fell.ensures.0
+
+pub loop-far-preserved : goal.loop-far-preserved
+loop-far-preserved c = (only_fell_then c.loop-far.invariant.0 c.spread-fell.ensures.0, c.spread-fell.ensures.1)
+
+pub returns : goal.returns
+returns c = c.loop-far.invariant.0
