@@ -8,7 +8,7 @@ ghost use Rattle.std.specs.Prelude.{◌≡◌, ◌/◌, min};
 ghost use Rattle.records.specs.Table.{moved, timed, placed};
 
 // What is held of a carrier: the start and goal of its move, its distance and its start tick.
-#[derive(Drop)]
+#[derive(Clone, Copy)]
 pub struct Record {
     pub start: u16,
     pub goal: u16,
