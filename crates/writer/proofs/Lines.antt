@@ -2,11 +2,11 @@
 -- lines of entries grow by one behind the others, each by its fields; and the text is its sections one behind
 -- the other. Assumes nothing.
 --     count_parts                a section's line by its parts
---     no_pairs, next-pair        the lines of the first pairs of a list: of none, and of one more; all-pairs
+--     no_pairs, next_pair        the lines of the first pairs of a list: of none, and of one more; all_pairs
 --                                those of all, an odd last number left out
---     no_singles, next-single    the same of single numbers
---     closed_unwritten, closed-written    the section of the closed nodes: nothing, or its line and entries
---     dwell_unwritten, dwell-written      the line of the dwell: nothing, or the line
+--     no_singles, next_single    the same of single numbers
+--     closed_unwritten, closed_written    the section of the closed nodes: nothing, or its line and entries
+--     dwell_unwritten, dwell_written      the line of the dwell: nothing, or the line
 --     job_parts                  the text of a job by the lines of its sections
 use mathlib.Core.Path.{◌≡◌, refl, sym, ◌∙◌, ap}
 use mathlib.Core.Logic.{◌≢◌}
