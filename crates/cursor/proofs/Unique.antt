@@ -2,7 +2,7 @@
 -- reading (crate form, proofs/LineForms.antt), and the rest behind it tells where the next cursor stands,
 -- which is in the text or at its end. Assumes nothing.
 --     behind_unique        one cursor stands behind a line
---     entering_unique      one answer of `one`; entering-two-unique of `pair`, counting-unique of `count`
+--     entering_unique      one answer of `one`; entering_two_unique of `pair`, counting_unique of `count`
 use mathlib.Core.Path.{◌≡◌, refl, sym, ◌∙◌, ap}
 use mathlib.Core.List.{List, [], ◌∷◌, append_assoc}
 use Prim.Native.Nat.{ℕ}

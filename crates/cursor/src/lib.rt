@@ -16,7 +16,7 @@ use crate::bytes::Kind;
 pub mod bytes;
 
 // A place in a text, and the number of the line that it is in.
-#[derive(Drop)]
+#[derive(Clone, Copy)]
 pub struct Cursor {
     pub at: usize,
     pub line: usize,
