@@ -15,7 +15,7 @@ use lib.ListN.{length, set, drop, length-set, drop_of_length-le}
 use lib.Seq.{drop-cons, ext_get_or}
 use Rattle.records.specs.declared.Record.{Record}
 use Rattle.records.specs.Table.{blank, record_at}
-use Rattle.try_columns.specs.Columns.{lendable, record_from, records_from, made_of, tell_to, told_from, told_to}
+use Rattle.try_columns.specs.Columns.{lendable, record_from, records_from, made_of, tell_to, told_from}
 
 -- ---- made
 

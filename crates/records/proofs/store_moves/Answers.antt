@@ -1,5 +1,5 @@
--- One more record placed is one more store (`Lists.antt`'s `placed_step`): each of the records below the count
--- is there, with two numbers. When the loop ends all that have both are placed (`placed_all`).
+-- One more record placed is one more store (`Lists.antt`'s `placed_step`): each of the records below the
+-- count is there, with two numbers. When the loop ends all that have both are placed (`placed_all`).
 use Rattle.std.proofs.Common.{ℕ, List, ◌≡◌, ◌≤◌, ◌<◌, ◌+◌, ◌*◌, ◌/◌, ◌∙◌, ap, min, set, get_or, length, arith}
 use Rattle.std.proofs.Math.Numerals.{add-one}
 use Rattle.records.specs.declared.Record.{Record}
