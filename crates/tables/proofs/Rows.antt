@@ -15,7 +15,7 @@ use lib.ListN.{length, get_or, set, length-set}
 use lib.Seq.{get_or-set_same, get_or-set_other}
 use Rattle.hall.specs.Limits.{carrier_limit, block_length}
 use Rattle.hall.specs.Job.{move_count}
-use Rattle.tables.specs.Blocks.{row_from, read_at, place_in, OutsideRow, RowCopied, RowsCopied}
+use Rattle.tables.specs.Blocks.{row_from, read_at, place_in, RowCopied, RowsCopied}
 
 module _ (row moves : List ℕ) (offset base : ℕ) (table₀ : List ℕ) where
   pub copied_none : RowCopied row moves offset 0 base table₀ table₀
