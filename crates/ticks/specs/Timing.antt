@@ -10,7 +10,7 @@
 --                       of the goal ticks; no other place changed
 --     TicksUntouched    what is not served leaves the ticks as they came
 --     Priced            an answer: the cost, or that the input is none of those served
---     said_timed         what a `Timed` says
+--     said_timed        what a `Timed` says
 --     Timing            the promise: the answer with the ticks that it leaves
 use Rattle.std.specs.Prelude.{◌≡◌, List, [], ◌∷◌, ℕ, ◌≤◌, length, get_or}
 use Rattle.hall.specs.Limits.{carrier_limit, dwell_limit, table_length}
