@@ -10,7 +10,7 @@ ghost use Rattle.hall.specs.Limits.{largest_job, empty_job};
 pub mod zero;
 
 // The counts of a job and its dwell: what reading an accepted text answers.
-#[derive(Drop)]
+#[derive(Clone, Copy)]
 pub struct Job {
     pub nodes: usize,
     pub lanes: usize,
