@@ -16,12 +16,13 @@ use Rattle.hall.proofs.Walks.{lanes_symmetric}
 use Rattle.path.specs.Steps.{Downhill, Next, LowestNext}
 
 -- the first lane of a shortest walk
+lane_of : {F : Floor} {u g m : ℕ} → Walk F u g (suc m) → ((i : ℕ) → Walk F u g i → suc m ≤ i) →
+    (b : ℕ) × F.Joined u b × Dist F b g m
+lane_of (step {b = b} n e w) least =
+    (b, e, record { walk = w; least = λ i v. le_of_suc-le-suc (least (suc i) (step n e v)) })
+
 pub first_lane : {F : Floor} {u g m : ℕ} → Dist F u g (suc m) → (b : ℕ) × F.Joined u b × Dist F b g m
-first_lane {F} {u} {g} {m} h = cases h.walk
-  where
-    cases : Walk F u g (suc m) → (b : ℕ) × F.Joined u b × Dist F b g m
-    cases (step {b = b} n e w) =
-        (b, e, record { walk = w; least = λ i v. le_of_suc-le-suc (h.least (suc i) (step n e v)) })
+first_lane h = lane_of h.walk h.least
 
 no_lanes : {F : Floor} {a b : ℕ} → Walk F a b zero → a ≡ b
 no_lanes (here n) = refl

@@ -3,8 +3,9 @@
 -- the goal tells. Assumes nothing.
 use mathlib.Core.Path.{◌≡◌, refl}
 use mathlib.Core.Logic.{◌≢◌}
+use mathlib.Core.Bool.{Bool}
 use mathlib.Core.List.{List}
-use Prim.Native.Nat.{ℕ}
+use Prim.Native.Nat.{ℕ, ◌<◌}
 use native.Mathlib.Omega.{arith}
 use lib.ListN.{length, get_or}
 use Rattle.hall.specs.declared.Fault.TheVariants.{Unreachable}
@@ -17,13 +18,29 @@ use Rattle.hall.proofs.Walks.{reverse, lanes_symmetric, marked_none}
 use Rattle.hall.proofs.Compose.{none_at_all, none_append, first_after, not_both}
 use Rattle.hall.proofs.Places.{asked_here, asked_clear}
 use Rattle.network.proofs.SoundMove.{MoveSound, move_sound}
-use Rattle.walk.specs.Row.{RowFilled}
+use Rattle.walk.specs.Row.{RowFilled, Rowed}
+use Rattle.walk.proofs.WalkRow.{rowed_served}
 use Rattle.path.specs.Steps.{Downhill, MoveReached}
 use Rattle.path.proofs.Downhill.{start_distance}
 
 module _ (N : Network) (s g : ℕ) (sound : None (move_ends N s g)) where
   facts : MoveSound N s g
   facts = move_sound N s g sound
+
+  -- the walk is served, so it has filled the row, where the start has a place
+  pub row_filled : {row left : List ℕ} {r : Bool} → length row ≡ node_limit → Rowed N g row left r →
+      RowFilled N g row left
+  row_filled size told =
+      (rowed_served
+      (record {
+        few = facts.few_nodes;
+        numbered = facts.goal_open.numbered;
+        wide = omega (arith, facts.few_nodes, size);
+      })
+      told).1
+
+  pub start_inside : {row left : List ℕ} → length row ≡ node_limit → RowFilled N g row left → s < length left
+  start_inside size filled = omega (arith, facts.start_open.numbered, facts.few_nodes, filled.size, size)
 
   -- ---- what the distances to the goal tell
 

@@ -1,0 +1,36 @@
+-- Before the goal a lane is left, so the next place is in the list and the next node is one lane nearer. What is
+-- laid at the goal is the house path, and the list past it is as it came.
+use Rattle.std.proofs.Common.{arith}
+use Rattle.path.proofs.Laying.{laying_first, laying_next, laying_done, laid_from, place_free, some_left, next_place}
+use Rattle.path.proofs.lay.Goals as goal
+
+pub loop-u-init : goal.loop-u-init
+loop-u-init c = λ closed down. laying_first c.args.path.now down c.requires.2
+
+pub overflow_sub-left : goal.overflow_sub-left
+overflow_sub-left c = some_left (c.loop-u.invariant c.requires.0 c.requires.1) c.loop-u-test.true
+
+pub overflow_add-at : goal.overflow_add-at
+overflow_add-at c = omega (arith, place_free (c.loop-u.invariant c.requires.0 c.requires.1))
+
+pub offset_bounds-path-at : goal.offset_bounds-path-at
+offset_bounds-path-at c = omega (arith, place_free (c.loop-u.invariant c.requires.0 c.requires.1))
+
+pub bounds-path-at : goal.bounds-path-at
+bounds-path-at c = next_place (c.loop-u.invariant c.requires.0 c.requires.1) c.loop-u-test.true
+
+pub loop-u-smaller : goal.loop-u-smaller
+loop-u-smaller c =
+    omega (arith, some_left (c.loop-u.invariant c.requires.0 c.requires.1) c.loop-u-test.true)
+
+pub loop-u-preserved : goal.loop-u-preserved
+loop-u-preserved c =
+    let left = some_left (c.loop-u.invariant c.requires.0 c.requires.1) c.loop-u-test.true in
+    λ closed down. laying_next (c.loop-u.invariant closed down) down (omega arith) c.next_node-u.ensures
+
+pub overflow_add-result : goal.overflow_add-result
+overflow_add-result c = omega (arith, place_free (c.loop-u.invariant c.requires.0 c.requires.1))
+
+pub returns : goal.returns
+returns c =
+    λ closed down. laid_from c.args.path.now (laying_done (c.loop-u.invariant closed down) c.loop-u-test.false)
