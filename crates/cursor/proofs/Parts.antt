@@ -28,6 +28,9 @@ module _ (text : List ℕ) (at : ℕ) where
   pub front : at < length text → drop at text ≡ get_or text at 0 ∷ drop (at + 1) text
   front h = rw add-one (drop-cons text at 0 h)
 
+  pub digit_past : length text ≤ at → NoDigit (drop at text)
+  digit_past h = rw (drop_of_length-le text h) tt
+
   pub digit_not : at < length text → ¬ (kind_of (get_or text at 0) ≡ Digit) → NoDigit (drop at text)
   digit_not h n = rw (front h) n
 

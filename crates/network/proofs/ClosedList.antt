@@ -23,9 +23,15 @@ Faulty nodes closed k = (k < length closed) × ClosedFault nodes closed k
 module _ (nodes : ℕ) (closed : List ℕ) (k node : ℕ)
     (inside : k < length closed)
     (e : node ≡ get_or closed k 0) where
+  pub no_node_bad : nodes ≤ node → Faulty nodes closed k
+  no_node_bad l = (inside, no_such_node (omega arith))
+
   sound_entry : node < nodes → ((j : ℕ) → j + 1 ≡ k → get_or closed j 0 < node) → ¬ ClosedFault nodes closed k
   sound_entry l above (no_such_node x) = omega arith
   sound_entry l above (not_higher j s x) = omega (arith, above j s)
+
+  pub first_entry_sound : node < nodes → k ≡ 0 → ¬ Faulty nodes closed k
+  first_entry_sound l z f = sound_entry l (λ j s. omega arith) f.1
 
   module _ (before : ℕ) (b : before ≡ get_or closed (k - 1) 0) where
     pub rising_entry_sound : node < nodes → before < node → ¬ Faulty nodes closed k

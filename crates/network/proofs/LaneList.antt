@@ -38,6 +38,12 @@ module _ (nodes : ℕ) (lanes : List ℕ) (k low high : ℕ)
     (inside : k < lanes_in lanes)
     (l : low ≡ lower lanes k)
     (h : high ≡ higher lanes k) where
+  pub falling_ends_bad : high ≤ low → Faulty nodes lanes k
+  falling_ends_bad x = (inside, not_below (omega arith))
+
+  pub no_node_bad : nodes ≤ high → Faulty nodes lanes k
+  no_node_bad x = (inside, no_node (inr (omega arith)))
+
   sound_lane : low < high → high < nodes →
       ((j : ℕ) → j + 1 ≡ k → Exceeds lanes k j) →
       ¬ LaneFault nodes lanes k
@@ -45,6 +51,10 @@ module _ (nodes : ℕ) (lanes : List ℕ) (k low high : ℕ)
   sound_lane below node above (no_node (inr x)) = omega arith
   sound_lane below node above (not_below x) = omega arith
   sound_lane below node above (not_rising {j = j} e x) = x (above j e)
+
+  pub first_lane_sound : low < high → high < nodes → k ≡ 0 → ¬ Faulty nodes lanes k
+  first_lane_sound below node z f =
+      sound_lane below node (λ j e. absurd (let x : ⊥ = omega arith in x)) f.1
 
   module _ (low₀ high₀ : ℕ)
       (l₀ : low₀ ≡ get_or lanes (2 * k - 2) 0)
