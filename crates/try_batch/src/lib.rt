@@ -12,10 +12,12 @@ pub mod marked;
 pub mod payload;
 pub mod print;
 
-ghost use Rattle.std.specs.Prelude.{◌≡◌, replicate};
+ghost use Rattle.std.specs.Prelude.{◌≡◌, IfOk, replicate};
 ghost use Rattle.try_batch.specs.Cases.{payload_room, CaseRead};
 
-use libc::STDIN_FILENO;
+use input::read_full;
+use std::io;
+use std::io::{Read, Write};
 
 // A case, with its kind and how many bytes of the space its payload takes, or the end of the batch.
 #[derive(Drop)]
@@ -32,18 +34,23 @@ pub fn payload_room() -> [u8; 262144]
 }
 
 // Reads the next case, as much of its payload as the space and the input have, and prints its number. The
-// kind and the bytes come from standard input, of which no contract says anything. So all that can be
-// promised is that the payload fits into the space, which keeps its length, and that the end of the batch
-// leaves the space as it came.
-pub fn next_case(number: u64, space: &mut [u8]) -> Head
-    ensures { CaseRead space.old space.new result }
+// kind and the bytes come from the input, of which no contract says anything. So all that can be promised is
+// that the payload fits into the space, which keeps its length, and that the end of the batch leaves the space
+// as it came; or that reading or printing failed.
+pub fn next_case<R: Read, W: Write>(
+    number: u64,
+    space: &mut [u8],
+    input: &mut R,
+    out: &mut W,
+) -> io::Result<Head>
+    ensures { IfOk result (CaseRead space.old space.new) }
 {
     let mut head = [0u8; 5];
-    if io::read_full(STDIN_FILENO, &mut head) < 5 {
-        return Head::End;
+    if read_full(input, &mut head)? < 5 {
+        return Ok(Head::End);
     }
-    let end = io::count(payload::long_at(&head, 1) as isize, space);
-    let count = io::read_full(STDIN_FILENO, &mut space[..end]);
-    print::line(b"# ", number);
-    Head::Case(head[0], count)
+    let end = payload::least(payload::long_at(&head, 1) as usize, space.len());
+    let count = read_full(input, &mut space[..end])?;
+    print::line(out, b"# ", number)?;
+    Ok(Head::Case(head[0], count))
 }

@@ -8,6 +8,8 @@ ghost use Rattle.try_batch.specs.Marked.{short_places, short_mark, byte_places, 
 
 use super::payload::{least, opening, rest, short_at};
 use super::print;
+use std::io;
+use std::io::Write;
 use writer::Written;
 
 // The longest table that is lent.
@@ -46,11 +48,11 @@ pub fn lend_bytes<'a>(bytes: &'a mut [u8], s: &[u8], at: usize) -> &'a mut [u8]
     &mut bytes[0..n]
 }
 
-fn run(count: usize, number: u64) {
-    print::word(b" ");
-    print::number(count as u64);
-    print::word(b"x");
-    print::number(number);
+fn run<W: Write>(out: &mut W, count: usize, number: u64) -> io::Result<()> {
+    print::word(out, b" ")?;
+    print::number(out, count as u64)?;
+    print::word(out, b"x")?;
+    print::number(out, number)
 }
 
 // The number at a place of the one list of three that is not empty.
@@ -68,8 +70,14 @@ fn place_of(bytes: &[u8], shorts: &[u16], numbers: &[u32], i: usize) -> u64 {
 }
 
 // Prints a table under its word: bytes, shorts or numbers. The other two lists are empty.
-pub fn print_runs(word: &[u8], bytes: &[u8], shorts: &[u16], numbers: &[u32]) {
-    print::word(word);
+pub fn print_runs<W: Write>(
+    out: &mut W,
+    word: &[u8],
+    bytes: &[u8],
+    shorts: &[u16],
+    numbers: &[u32],
+) -> io::Result<()> {
+    print::word(out, word)?;
     let n = bytes.len() + shorts.len() + numbers.len();
     let mut last = place_of(bytes, shorts, numbers, 0);
     let mut count: usize = 0;
@@ -80,30 +88,30 @@ pub fn print_runs(word: &[u8], bytes: &[u8], shorts: &[u16], numbers: &[u32]) {
             count += 1;
             i += 1;
         } else {
-            run(count, last);
+            run(out, count, last)?;
             last = next;
             count = 1;
             i += 1;
         }
     }
     if 0 < count {
-        run(count, last);
+        run(out, count, last)?;
     }
-    print::word(b"\n");
+    print::word(out, b"\n")
 }
 
 // The answer to writing a job, the text as it is, and what all bytes behind it hold: after a refusal that is
 // all there are.
-pub fn print_written(answer: Written, out: &[u8]) {
+pub fn print_written<W: Write>(out: &mut W, answer: Written, bytes: &[u8]) -> io::Result<()> {
     match answer {
         Written::Bytes(count) => {
-            print::line(b"BYTES ", count as u64);
-            print::word(opening(out, count));
-            print_runs(b"out", rest(out, count), &[], &[]);
+            print::line(out, b"BYTES ", count as u64)?;
+            print::word(out, opening(bytes, count))?;
+            print_runs(out, b"out", rest(bytes, count), &[], &[])
         }
         Written::Refused(r) => {
-            print::refused(r);
-            print_runs(b"out", out, &[], &[]);
+            print::refused(out, r)?;
+            print_runs(out, b"out", bytes, &[], &[])
         }
     }
 }

@@ -1,85 +1,86 @@
-// Printing answers to standard output. What is written no contract can say: where a function answers nothing,
-// that it is safe and ends is all there is to promise.
+// Printing answers. What is written goes to the writer that is lent; where a function answers nothing, that it
+// is safe, ends, and answers an error only where the writer does is all there is to promise.
 use hall::{Checked, Job, Refusal};
-use libc::STDOUT_FILENO;
 use path::Housed;
 use planner::Planned;
 use reader::Read;
+use std::io;
+use std::io::Write;
 
-pub fn word(bytes: &[u8]) {
-    io::write_all(STDOUT_FILENO, bytes);
+pub fn word<W: Write>(out: &mut W, bytes: &[u8]) -> io::Result<()> {
+    out.write_all(bytes)
 }
 
-pub fn number(n: u64) {
-    io::print_decimal(STDOUT_FILENO, n);
+pub fn number<W: Write>(out: &mut W, n: u64) -> io::Result<()> {
+    write!(out, "{n}")
 }
 
 // A word and a number on a line.
-pub fn line(bytes: &[u8], n: u64) {
-    word(bytes);
-    number(n);
-    word(b"\n");
+pub fn line<W: Write>(out: &mut W, bytes: &[u8], n: u64) -> io::Result<()> {
+    word(out, bytes)?;
+    number(out, n)?;
+    word(out, b"\n")
 }
 
 // Two numbers on a line.
-fn pair(a: u64, b: u64) {
-    number(a);
-    line(b" ", b);
+fn pair<W: Write>(out: &mut W, a: u64, b: u64) -> io::Result<()> {
+    number(out, a)?;
+    line(out, b" ", b)
 }
 
-pub fn refused(r: Refusal) {
+pub fn refused<W: Write>(out: &mut W, r: Refusal) -> io::Result<()> {
     let fault = r.fault;
     let place = r.place;
-    word(b"REFUSED ");
-    pair(fault.number() as u64, place as u64);
+    word(out, b"REFUSED ")?;
+    pair(out, fault.number() as u64, place as u64)
 }
 
-pub fn read(answer: Read) {
+pub fn read<W: Write>(out: &mut W, answer: Read) -> io::Result<()> {
     match answer {
         Read::Job(job) => {
-            word(b"READ ");
-            number(job.nodes as u64);
-            word(b" ");
-            number(job.lanes as u64);
-            word(b" ");
-            number(job.closed as u64);
-            word(b" ");
-            pair(job.carriers as u64, job.dwell as u64);
+            word(out, b"READ ")?;
+            number(out, job.nodes as u64)?;
+            word(out, b" ")?;
+            number(out, job.lanes as u64)?;
+            word(out, b" ")?;
+            number(out, job.closed as u64)?;
+            word(out, b" ")?;
+            pair(out, job.carriers as u64, job.dwell as u64)
         }
-        Read::Refused(r) => refused(r),
+        Read::Refused(r) => refused(out, r),
     }
 }
 
-pub fn planned(answer: Planned) {
+pub fn planned<W: Write>(out: &mut W, answer: Planned) -> io::Result<()> {
     match answer {
-        Planned::Cost(cost) => line(b"COST ", cost as u64),
-        Planned::Refused(r) => refused(r),
+        Planned::Cost(cost) => line(out, b"COST ", cost as u64),
+        Planned::Refused(r) => refused(out, r),
     }
 }
 
-pub fn housed(answer: Housed) {
+pub fn housed<W: Write>(out: &mut W, answer: Housed) -> io::Result<()> {
     match answer {
-        Housed::Nodes(count) => line(b"PATH ", count as u64),
-        Housed::Refused(r) => refused(r),
+        Housed::Nodes(count) => line(out, b"PATH ", count as u64),
+        Housed::Refused(r) => refused(out, r),
     }
 }
 
-pub fn judged(answer: Checked) {
+pub fn judged<W: Write>(out: &mut W, answer: Checked) -> io::Result<()> {
     match answer {
-        Checked::Sound => word(b"PASSED\n"),
-        Checked::Refused(r) => refused(r),
+        Checked::Sound => word(out, b"PASSED\n"),
+        Checked::Refused(r) => refused(out, r),
     }
 }
 
 // The choice between two lists. The library answers the lent list itself; here it is told by its contents,
 // which is enough, since the own list is chosen wherever the two are equal and one is a shortest path.
-pub fn chosen(list: &[u16], own: &[u16]) {
+pub fn chosen<W: Write>(out: &mut W, list: &[u16], own: &[u16]) -> io::Result<()> {
     if list.len() == 0 {
-        word(b"NONE\n");
+        word(out, b"NONE\n")
     } else if same(list, own) {
-        word(b"OWN\n");
+        word(out, b"OWN\n")
     } else {
-        word(b"SPARE\n");
+        word(out, b"SPARE\n")
     }
 }
 

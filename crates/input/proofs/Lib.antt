@@ -1,0 +1,2 @@
+-- What a read puts behind what was filled before.
+mod Filling
