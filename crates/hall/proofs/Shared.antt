@@ -21,7 +21,7 @@ use native.Mathlib.Omega.{arith}
 use lib.ListN.{length, get_or}
 use lib.IntN.{pos, ◌-ℤ◌}
 use Rattle.hall.specs.Floor.{Floor, Symmetric, Dist, DistanceIs}
-use Rattle.hall.specs.Job.{Numbers, carriers, start, goal, at_place}
+use Rattle.hall.specs.Job.{Numbers, carriers, start, at_place}
 use Rattle.hall.specs.Stages.{None}
 use Rattle.hall.specs.Questions.{checks_question}
 use Rattle.hall.specs.Rule.{Pair, Forbidden, Forbidden⁺}

@@ -1,6 +1,6 @@
 -- The invariant of `zero_below`: the table so far is the one that came, with its first i places zero. The measure
 -- is what is left of the places.
-use Rattle.std.proofs.Common.{◌-◌, ◌≡◌, ◌≤◌, length}
+use Rattle.std.proofs.Common.{◌-◌, ◌≡◌, ◌≤◌}
 use Rattle.hall.specs.Left.{zeroed}
 use Rattle.hall.proofs.zero.zero_below.Given as goal
 

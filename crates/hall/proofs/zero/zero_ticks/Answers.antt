@@ -1,5 +1,5 @@
 -- A list that ends before the 64th place is zero throughout; in a longer one the 64 places are.
-use Rattle.std.proofs.Common.{◌≡◌, ◌+◌, ◌<◌, length, slice_set, refl, sym, ◌∙◌, arith}
+use Rattle.std.proofs.Common.{◌≡◌, ◌+◌, ◌<◌, length, slice_set, sym, ◌∙◌, arith}
 use Rattle.hall.specs.Left.{zeroed}
 use Rattle.hall.specs.Limits.{carrier_limit}
 use Rattle.hall.proofs.Left.{zeroed_none, zeroed_more, zeroed_short}
