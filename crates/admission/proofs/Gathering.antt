@@ -10,7 +10,6 @@ use native.Mathlib.Nat.{not-suc-le-zero}
 use native.Mathlib.Decide.{dec_lt}
 use native.Mathlib.Omega.{arith}
 use lib.ListN.{length}
-use Rattle.hall.specs.Rule.{Pair}
 use Rattle.hall.specs.Ticks.{SmallestFrom, PermittedBy}
 use Rattle.rule.specs.Held.{held_tick, held_pair, held_with}
 use Rattle.rule.proofs.Carry.{smallest_same}

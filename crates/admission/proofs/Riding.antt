@@ -79,7 +79,7 @@ module _ (N : Network) (b : Book) (now : ℕ) (moves ticks : List ℕ) where
 
 -- ---- the moves that are admitted
 
-pub admits_length : {N : Network} {b left : Book} {now k : ℕ} {moves starts : List ℕ} → Admits N b now moves k starts left → length starts ≡ k
+pub admits_length : {N : Network} {b : Book} {now : ℕ} {moves : List ℕ} {k : ℕ} {starts : List ℕ} {left : Book} → Admits N b now moves k starts left → length starts ≡ k
 admits_length none_yet = refl
 admits_length (one_more {k = k} {starts = starts} {e = e} l before a) = length-append starts (e.tick ∷ []) ∙ omega (arith, admits_length before)
 
@@ -92,7 +92,7 @@ pub record Taken (N : Network) (b : Book) (now : ℕ) (moves starts : List ℕ) 
   pub put : PutTo N b now moves i held (accepted entry) left
   pub tick_is : get_or starts i 0 ≡ entry.tick
 
-pub taken_at : {N : Network} {b held : Book} {now k : ℕ} {moves starts : List ℕ} → Admits N b now moves k starts held → (i : ℕ) → i < k → Taken N b now moves starts i
+pub taken_at : {N : Network} {b : Book} {now : ℕ} {moves : List ℕ} {k : ℕ} {starts : List ℕ} {held : Book} → Admits N b now moves k starts held → (i : ℕ) → i < k → Taken N b now moves starts i
 taken_at none_yet i l = absurd (not-suc-le-zero l)
 taken_at {N} {b} {now = now} {moves = moves} (one_more {k = k} {starts = starts} {held = held} {left = left} {e = e} m before a) i l = cases (ℕ_discrete i k) (λ z. taken_at before i z)
   where

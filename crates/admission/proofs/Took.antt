@@ -2,7 +2,7 @@
 --     Took      the clock did not turn back, the tick is the smallest, the slot the lowest free one, and so
 --               on
 --     past      past its last tick a carrier permits every tick
-use mathlib.Core.Path.{◌≡◌, refl, ap, subst}
+use mathlib.Core.Path.{◌≡◌, refl, subst}
 use mathlib.Core.Logic.{◌≢◌}
 use mathlib.Core.List.{[], ◌∷◌}
 use Prim.Native.Nat.{ℕ, zero, ◌≤◌, ◌<◌}

@@ -1,5 +1,5 @@
--- `slots::lowest_free` meets its contract: the first slot that the test says is free is the lowest one, and one
--- that the test says is taken joins those before it. Assumes nothing.
+-- `slots::lowest_free` meets its contract: the first slot that the test says is free is the lowest one, and
+-- one that the test says is taken joins those before it. Assumes nothing.
 use Rattle.std.proofs.Common.{◌≢◌, arith, below_more}
 use Rattle.slots.specs.Record.{free, slot_at, found}
 use Rattle.slots.proofs.Slots.{free_by, taken_by}
