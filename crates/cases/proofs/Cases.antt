@@ -2,9 +2,9 @@
 -- errors would give do not (rules 11.13 and 11.17), and where several faults hold of a job the order of the
 -- checks decides (rule 8.22): each is one table, by one test of a job with an outcome. A line of a table
 -- costs no proof of its own. Assumes nothing.
---     cases           P1 to P11; shared-cases carriers that share an end; closed-cases halls with closed
---                     nodes; dwell-cases carriers that wait (specs/Case.antt)
---     wrong_cases     what easy errors would give (specs/Errors.antt); refusal-cases the order of the checks
+--     cases           P1 to P11; shared_cases carriers that share an end; closed_cases halls with closed
+--                     nodes; dwell_cases carriers that wait (specs/Case.antt)
+--     wrong_cases     what easy errors would give (specs/Errors.antt); refusal_cases the order of the checks
 --                     (specs/Refusals.antt)
 use mathlib.Core.List.{[]}
 use Prim.Native.Nat.{ℕ, ◌<◌}

@@ -10,7 +10,7 @@
 --     Gives       the outcome is what the definitions give of the job: accepted, or refused for its first
 --                 fault
 --     Holds       the same of a case
---     line2, ..   the lanes of a line of so many nodes; six-lanes four nodes with all six lanes between them
+--     line2, ..   the lanes of a line of so many nodes; six_lanes four nodes with all six lanes between them
 --     two_rows    six nodes in two rows of three: 0 1 2 above 3 4 5
 --     crossing    seven nodes: 1 is joined to 0, 2, 4 and 5, 3 to 0 and 2, and 6 to 4 and 5
 --     square      four nodes in two rows of two: 0 1 above 2 3

@@ -1,10 +1,10 @@
 -- Refusals for closed nodes (rules 8.12, 8.13 and 12.1), as theorems that start from the promises as these
 -- stand in the source: 12 and 13 are given exactly when the list of checks says, each by one stage and by no
 -- other. Where carriers stand is in Open.antt. Assumes nothing.
---     plan_twelve_exactly, plan-thirteen-exactly    planning with records gives 12, and 13, at a place
+--     plan_twelve_exactly, plan_thirteen_exactly    planning with records gives 12, and 13, at a place
 --                           exactly if the table is long enough and an entry of the closed nodes, or an end
 --                           of a move, is at fault there (specs/Closed.antt)
---     numbers_twelve_exactly, numbers-thirteen-exactly, write-twelve-exactly, write-thirteen-exactly    the
+--     numbers_twelve_exactly, numbers_thirteen_exactly, write_twelve_exactly, write_thirteen_exactly    the
 --                           same of planning from numbers and of writing
 use mathlib.Core.Path.{◌≡◌, refl}
 use mathlib.Core.Logic.{◌↔◌, ◌≢◌}

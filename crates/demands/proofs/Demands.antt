@@ -7,30 +7,30 @@
 -- has to be. Both speak of open nodes, since a network's floor has no others (hall's `floor`). The work is
 -- done by the laws that are cited. That one move's questions have one answer, and the choice too, stands in
 -- path's Unique.antt. Assumes nothing.
---     one_reading, one-planning, one-house, one-judgement    demand 1: one answer and one content of each
+--     one_reading, one_planning, one_house, one_judgement    demand 1: one answer and one content of each
 --                                                            table
---     accepted_exactly, refused-exactly, refused-by-text    demand 1: a text is accepted, and refused with a
+--     accepted_exactly, refused_exactly, refused_by_text    demand 1: a text is accepted, and refused with a
 --                                               number at a line, exactly when the list says
 --     nine_exactly                              demand 1: 9 at line 0 exactly if a table is short
---     nine_untouched, refused-zeroed, accepted-tables    demand 1: what the tables of reading hold then
---     accepted_text_written, read-faultless     what was read is the job that the text writes; planning it
+--     nine_untouched, refused_zeroed, accepted_tables    demand 1: what the tables of reading hold then
+--     accepted_text_written, read_faultless     what was read is the job that the text writes; planning it
 --                                               can give 8 only
---     plan_refused_exactly, plan-accepted-exactly    demand 1: planning is refused with a number at a place,
+--     plan_refused_exactly, plan_accepted_exactly    demand 1: planning is refused with a number at a place,
 --                                                    and accepted, exactly so
---     nine_kept, other-zeroed, accepted-left    demand 1: what planning leaves in the table and in the
+--     nine_kept, other_zeroed, accepted_left    demand 1: what planning leaves in the table and in the
 --                                               records
---     every_job_once, accepted-once             each job has one plan or one first fault by the definitions
+--     every_job_once, accepted_once             each job has one plan or one first fault by the definitions
 --                                               alone, so that nothing is promised of the empty set
---     house_refused_exactly, house-accepted-exactly, house-left, house-laid    demand 1: the house path of a
+--     house_refused_exactly, house_accepted_exactly, house_left, house_laid    demand 1: the house path of a
 --                                                                              carrier, with a job
---     list_refused_exactly, list-sound-exactly  demand 1: the question about one list of a carrier, with a
+--     list_refused_exactly, list_sound_exactly  demand 1: the question about one list of a carrier, with a
 --                                               job
---     move-house-.., move-list-..               demand 1: the same with a network and a move
---     choice_own_exactly, choice-spare-exactly, choice-empty-exactly    demand 1: the choice, which has no
+--     move_house_.., move_list_..               demand 1: the same with a network and a move
+--     choice_own_exactly, choice_spare_exactly, choice_empty_exactly    demand 1: the choice, which has no
 --                                                                       number, by what passes
 --     accepted_right                            demand 2
---     unreached_refused, refused-unreached      demand 2: 8, both ways
---     accepted_safe, accepted-within            demand 3, and the limits of ticks and cost
+--     unreached_refused, refused_unreached      demand 2: 8, both ways
+--     accepted_safe, accepted_within            demand 3, and the limits of ticks and cost
 --     accepted_paths                            each carrier has a shortest path, so that demand 3 speaks of
 --                                               some
 use mathlib.Core.Path.{◌≡◌, refl, sym, ◌∙◌, ap, subst}

@@ -5,16 +5,16 @@
 -- accepted one has at most 255, and which limits its ticks and its cost then have; that without dwell demand
 -- 3 is that of page 01; and that the dwell comes back from the text of a job. Number 2 has six stages, each
 -- at a place of its own, so at place 5 it is the dwell's. Assumes nothing.
---     plan_dwell_exactly, numbers-dwell-exactly, write-dwell-exactly, house-dwell-exactly,
+--     plan_dwell_exactly, numbers_dwell_exactly, write_dwell_exactly, house_dwell_exactly,
 --     list_dwell_exactly       2 at place 5 is given exactly if the lent list is long enough, the five counts
 --                              are within their limits and the dwell is over 255 (specs/Dwell.antt)
---     accepted_dwell           the dwell of an accepted job is at most 255; read-dwell so is one that was
+--     accepted_dwell           the dwell of an accepted job is at most 255; read_dwell so is one that was
 --                              read
---     accepted_greatest, planned-greatest    ticks and cost of an accepted job, and of one that the program
+--     accepted_greatest, planned_greatest    ticks and cost of an accepted job, and of one that the program
 --                              plans: 80,577, 81,600, 81,855 and 5,222,400 at most
---     accepted_plain, planned-plain    without dwell demand 3 is what page 01 says, and so are the limits:
---                              accepted_plain_within, planned-plain-within
---     dwell_comes_back, numbers-dwell-comes-back    the dwell of a job that was written is read
+--     accepted_plain, planned_plain    without dwell demand 3 is what page 01 says, and so are the limits:
+--                              accepted_plain_within, planned_plain_within
+--     dwell_comes_back, numbers_dwell_comes_back    the dwell of a job that was written is read
 use mathlib.Core.Path.{◌≡◌, refl, ap, sym, ◌∙◌}
 use mathlib.Core.Logic.{◌↔◌, ◌≢◌}
 use mathlib.Core.List.{List, [], ◌∷◌, ◌++◌}

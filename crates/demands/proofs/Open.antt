@@ -3,14 +3,14 @@
 -- Program.antt and Written.antt speak of open nodes as they stand. Here stands what that comes to: the ends
 -- of an accepted job are open, and no shortest path stands on a closed node at any tick; a list that does is
 -- refused with 11; and the closed nodes come back from the text of a job. Assumes nothing.
---     nodes_open            the nodes of a shortest path are open; stands-open so is each that a carrier
+--     nodes_open            the nodes of a shortest path are open; stands_open so is each that a carrier
 --                           stands on at a tick, whatever its start tick
 --     accepted_ends_open    the start and the goal of each carrier of an accepted job are open
 --     accepted_open         the carriers of an accepted job stand on open nodes alone, whatever shortest
---                           paths they take; planned-open those of a job that the program plans
---     house_open, sound-open    so do the house path, and a list that is found sound
+--                           paths they take; planned_open those of a job that the program plans
+--     house_open, sound_open    so do the house path, and a list that is found sound
 --     closed_list_refused   in a job without faults a list that stands on a closed node is refused with 11
---     numbers_closed_come_back, closed-come-back    the closed nodes of a job that was written are read
+--     numbers_closed_come_back, closed_come_back    the closed nodes of a job that was written are read
 use mathlib.Core.Path.{◌≡◌, ap, subst}
 use mathlib.Core.List.{List}
 use Prim.Native.Nat.{ℕ, ◌<◌}

@@ -5,9 +5,9 @@
 -- number and line, so the rules owe one text, and it is printed. Assumes nothing.
 --     answer_owed                  demands 1 to 3: what `answer` prints is owed
 --     one_owed                     the rules owe one text
---     refused_printed, planned-printed    and it is printed: the refusal exactly with the number and the line
+--     refused_printed, planned_printed    and it is printed: the refusal exactly with the number and the line
 --                                         of the rules, the plan exactly where nothing is refused
---     never_refused_and_planned, one-refusal, one-or-the-other    the rules refuse a text or plan it, never
+--     never_refused_and_planned, one_refusal, one_or_the_other    the rules refuse a text or plan it, never
 --                                                                 both, for one number and line
 use mathlib.Core.Path.{◌≡◌, refl, sym, ◌∙◌, ap, subst}
 use mathlib.Core.Logic.{◌⊎◌, inl, inr}

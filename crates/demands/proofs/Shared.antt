@@ -10,12 +10,12 @@
 --                          both among them
 --     accepted_starts_apart    start ticks from one start are more than the dwell apart
 --     accepted_in_a_row    if all have one start, the carrier at place p starts at tick p × (dwell + 1)
---     planned_two, planned-starts-apart, planned-in-a-row    the same of the plan that the program owes for a
+--     planned_two, planned_starts_apart, planned_in_a_row    the same of the plan that the program owes for a
 --                          text, and prints
---     read_never_six, plan-never-six, house-never-six, check-never-six, write-never-six    no question
+--     read_never_six, plan_never_six, house_never_six, check_never_six, write_never_six    no question
 --                          answers 6
 --     plan_six_never_first    nor do the checks of planning give it, of any job
---     refused_never_six, six-never-printed    nor do the rules refuse a text with it, so that the program
+--     refused_never_six, six_never_printed    nor do the rules refuse a text with it, so that the program
 --                          never prints it
 use mathlib.Core.Path.{◌≡◌, refl, sym, ◌∙◌, ap, subst}
 use mathlib.Core.Logic.{◌≢◌}

@@ -9,18 +9,18 @@
 --     write_refused_exactly    refused with a number at a place exactly when it is the first in the list
 --     write_accepted_exactly   accepted exactly when the output is long enough and no listed check holds
 --     write_listed             no other number is given than 2 to 5, 7, 9, 12 and 13
---     write_nine_kept, write-other-zeroed, write-filled    what the output holds after 9, after another
+--     write_nine_kept, write_other_zeroed, write_filled    what the output holds after 9, after another
 --                              refusal, and where the job is written
 --     always_written           every job without faults of the listed checks is written into an output that
 --                              is long enough; its text has at most 47,110 bytes, as if each number had four
 --                              digits
 --     write_unreached          a job that planning refuses with 8 is written
 --     written_front            the first bytes, as many as the answer says, are the text
---     numbers_come_back, job-comes-back    what was written is read: the job, without an odd last number of
---                              its moves; paired-come-back the job itself where there is none
---     numbers_text_comes_back, text-comes-back    what was read is written: the same bytes, whatever planning
+--     numbers_come_back, job_comes_back    what was written is read: the job, without an odd last number of
+--                              its moves; paired_come_back the job itself where there is none
+--     numbers_text_comes_back, text_comes_back    what was read is written: the same bytes, whatever planning
 --                              has put into the records meanwhile
---     one_writing, one-record-writing      one answer, and one content of the output
+--     one_writing, one_record_writing      one answer, and one content of the output
 --     one_meaning              with records it is that of their numbers
 use mathlib.Core.Path.{◌≡◌, refl, sym, ◌∙◌, ap, subst}
 use mathlib.Core.Logic.{◌↔◌, ◌≢◌}

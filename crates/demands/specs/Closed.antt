@@ -1,6 +1,6 @@
 -- When a job is refused for its closed nodes, said of its lists (rules 8.12 and 8.13).
---     before_closed      what is asked before the closed nodes: the five counts, the dwell and the lanes
---     before_moves       what is asked before the moves: the same, and the closed nodes
+--     before_closed     what is asked before the closed nodes: the five counts, the dwell and the lanes
+--     before_moves      what is asked before the moves: the same, and the closed nodes
 --     ClosedEntryAt     12 at place p: nothing holds that is asked before; entry p of the closed nodes is no
 --                       node or does not exceed its predecessor, and no entry before it is at fault
 --     ClosedEndAt       13 at place p: nothing holds that is asked before; the ends of move p are nodes and

@@ -1,5 +1,5 @@
 -- When a job is refused for its dwell, said of its numbers (rule 8.2).
---     before_dwell    what is asked before the dwell: the five counts
+--     before_dwell   what is asked before the dwell: the five counts
 --     DwellOver      2 at place 5: nothing holds that is asked before, and the dwell is over 255
 use Rattle.std.specs.Prelude.{[], ◌∷◌, ◌<◌, length}
 use Rattle.hall.specs.Limits.{dwell_limit}
