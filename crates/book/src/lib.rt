@@ -1,7 +1,6 @@
 // The floor book as it is lent (section 13 of the rules): one record of the caller's by `&mut`, changed by a
 // thin admission and by a thin trolley over the steps by value (crate `admission`). Each takes the record
-// out, calls its step, and puts back the record that the step answers. Nothing is decided here: a function
-// over a lent struct is proved by hand, and the less there is of it the better.
+// out, calls its step, and puts back the record that the step answers. Nothing is decided here.
 #![tactic(auto)]
 
 ghost use Rattle.hall.specs.Floor.{network_of};
