@@ -12,7 +12,7 @@ use Prim.Native.Nat.{ℕ, zero, suc, ◌≤◌, ◌<◌}
 use native.Mathlib.Nat.{not-suc-le-zero}
 use native.Mathlib.Decide.{dec_lt}
 use native.Mathlib.Omega.{arith}
-use lib.ListN.{length, get_or, set, replicate, length-replicate, get_or-replicate, length-set}
+use lib.ListN.{length, set, replicate, length-replicate, get_or-replicate, length-set}
 use Rattle.hall.specs.Floor.{Dist, Network, floor}
 use Rattle.hall.specs.Ticks.{SmallestFrom}
 use Rattle.hall.proofs.Walks.{dist_unique}

@@ -87,6 +87,7 @@ module _ (N : Network) (b : Book) (now : ℕ) (moves : List ℕ) (size : length 
 module _ (N : Network) (b : Book) (now : ℕ) (moves ticks : List ℕ) where
   pub refused_by : {n p : ℕ} {left : Book} {ticks' : List ℕ} → Ride N b now moves ticks (refused_whole n p) left ticks' → First (trolley_counts moves ticks) n p
   refused_by (not_begun f same list) = f
+  refused_by (begun _ x _) = elim x [ ]
 
   pub stopped_by : {k n p : ℕ} {left : Book} {ticks' : List ℕ} → Ride N b now moves ticks (stopped k n p) left ticks' → None (trolley_counts moves ticks) × StopsAt N b now moves k n p
   stopped_by (begun none (up_to {starts = starts} {held = held} l before a) e) = (none, record { starts = starts; held = held; is_move = l; admits = before; first = a.fits })

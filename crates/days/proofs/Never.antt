@@ -7,7 +7,7 @@ use mathlib.Core.Path.{◌≡◌, refl, subst}
 use mathlib.Core.List.{List, [], ◌∷◌, ◌++◌}
 use Prim.Native.Nat.{ℕ, ◌≤◌}
 use native.Mathlib.Omega.{arith}
-use lib.ListN.{replicate, length-replicate, get_or-replicate}
+use lib.ListN.{length-replicate, get_or-replicate}
 use Rattle.hall.specs.Limits.{dwell_limit}
 use Rattle.hall.specs.Floor.{Dist, Network, floor}
 use Rattle.hall.specs.Stages.{Question, FirstOf, here, later, FirstAt, FirstStage, First, None}
