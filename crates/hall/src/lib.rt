@@ -95,7 +95,7 @@ impl Place {
 }
 
 // Why a question is refused: one variant for each refusal number in use, in order. 6 is not (rule 8.6).
-#[derive(Drop)]
+#[derive(Clone, Copy)]
 pub enum Fault {
     Malformed,
     BadCount,
@@ -142,7 +142,7 @@ impl Fault {
 }
 
 // A refusal: the fault, with its line in a text or its place among the numbers.
-#[derive(Drop)]
+#[derive(Clone, Copy)]
 pub struct Refusal {
     pub fault: Fault,
     pub place: usize,
@@ -160,7 +160,7 @@ impl Refusal {
 }
 
 // What a check answers.
-#[derive(Drop)]
+#[derive(Clone, Copy)]
 pub enum Checked {
     Sound,
     Refused(Refusal),

@@ -22,7 +22,7 @@ use tables::{Tabled, measure};
 use ticks::{Timed, start_ticks};
 
 // What planning answers.
-#[derive(Drop)]
+#[derive(Clone, Copy)]
 pub enum Planned {
     Cost(u32),
     Refused(Refusal),
