@@ -1,19 +1,17 @@
 -- What differs between the kinds of entries, each kind by itself: how many numbers a line has, how many
 -- entries a table has room for, and that the reader's checks are those of the form, since what they ask for
 -- is what the sections before say. Assumes nothing.
---     one_number, two-numbers    how many numbers a line has, by its kind's place among the kinds
+--     one_number, two_numbers    how many numbers a line has, by its kind
 --     due_is             each count is that of lines
 --     steady             the checks look only at the numbers up to their entry's own
 --     has_place          the table has an entry k where its numbers have room
 --     further_numbers    more entries take more numbers
 --     judged_by_form     the answer of the reader's checks is that of the form's
 use mathlib.Core.Path.{◌≡◌, refl, subst}
-use mathlib.Core.Logic.{inl, inr}
-use mathlib.Core.List.{List, [], ◌∷◌}
+use mathlib.Core.Logic.{◌⊎◌, inl, inr}
+use mathlib.Core.List.{List}
 use Prim.Native.Nat.{ℕ, suc, ◌*◌, ◌≤◌, ◌<◌}
 use native.Mathlib.Omega.{arith}
-use types.Run.{OneOf}
-use denote.Enum.Declared.{tag_of}
 use lib.ListN.{length}
 use Rattle.hall.specs.declared.Job.{Job}
 use Rattle.hall.specs.declared.Checked.{Checked}
@@ -29,27 +27,16 @@ use Rattle.form.proofs.WholeChecks.{Steady}
 use Rattle.form.proofs.Checks.{lanes_steady, closed_steady, carriers_steady, order_steady}
 use Rattle.network.specs.declared.entries.Entries.{Entries}
 use Rattle.network.specs.declared.entries.Entries.TheVariants.{Lanes, Closed, Moves, Places}
-use Rattle.network.specs.contracts.entries.Entries as entries
 use Rattle.network.specs.Entries.{places_in, each_in}
 use Rattle.reader.specs.Entries.{Asks, section_of}
 
-pub one_number : (which : Entries) → OneOf (1 ∷ 3 ∷ []) (tag_of entries.the_type which)
-    → (section_of which).size ≡ 1
-one_number Lanes (inl e) = absurd (let x : ⊥ = omega arith in x)
-one_number Lanes (inr e) = absurd (let x : ⊥ = omega arith in x)
-one_number Closed h = refl
-one_number Moves (inl e) = absurd (let x : ⊥ = omega arith in x)
-one_number Moves (inr e) = absurd (let x : ⊥ = omega arith in x)
-one_number Places h = refl
+pub one_number : (which : Entries) → (which ≡ Closed) ⊎ (which ≡ Places) → (section_of which).size ≡ 1
+one_number which (inl e) = rw e refl
+one_number which (inr e) = rw e refl
 
-pub two_numbers : (which : Entries) → OneOf (0 ∷ 2 ∷ []) (tag_of entries.the_type which)
-    → (section_of which).size ≡ 2
-two_numbers Lanes h = refl
-two_numbers Closed (inl e) = absurd (let x : ⊥ = omega arith in x)
-two_numbers Closed (inr e) = absurd (let x : ⊥ = omega arith in x)
-two_numbers Moves h = refl
-two_numbers Places (inl e) = absurd (let x : ⊥ = omega arith in x)
-two_numbers Places (inr e) = absurd (let x : ⊥ = omega arith in x)
+pub two_numbers : (which : Entries) → (which ≡ Lanes) ⊎ (which ≡ Moves) → (section_of which).size ≡ 2
+two_numbers which (inl e) = rw e refl
+two_numbers which (inr e) = rw e refl
 
 pub due_is : (which : Entries) (n : ℕ) → due (section_of which) n ≡ n
 due_is Lanes n = refl

@@ -6,26 +6,24 @@
 --     form_terms       the terms have its table's least length, and let it be missing where the form does
 --     room_for         its numbers have room in a table of its least length
 --     asks_still       what its entries ask for stands in the counts with its own put in
---     no_entries       two sections are their count alone, by their places among the sections
+--     no_entries       the sections that list no entries are their count alone
 use mathlib.Core.Path.{◌≡◌, refl}
-use mathlib.Core.Logic.{◌↔◌, inl, inr}
-use mathlib.Core.List.{List, [], ◌∷◌}
+use mathlib.Core.Logic.{◌↔◌}
+use mathlib.Core.List.{List}
 use Prim.Native.Nat.{ℕ, ◌*◌, ◌≤◌}
 use native.Mathlib.Omega.{arith}
-use types.Run.{OneOf}
-use denote.Enum.Declared.{tag_of}
 use lib.ListN.{length}
 use Rattle.hall.specs.declared.Job.{Job}
 use Rattle.form.specs.Sections.{Content, CountFits, due}
 use Rattle.form.specs.Words.{NODES, LANES, CLOSED, CARRIERS, ORDER, DWELL}
 use Rattle.form.proofs.Lengths.{most}
 use Rattle.cursor.specs.Bytes.{Capitals}
+use Rattle.network.specs.declared.entries.Entries.{Entries}
 use Rattle.network.specs.declared.entries.Entries.TheVariants.{Lanes, Closed, Moves, Places}
 use Rattle.reader.specs.declared.sections.Sections.{Sections}
 use Rattle.reader.specs.declared.sections.Sections.TheVariants.{Nodes, Dwell, Listed}
 use Rattle.reader.specs.Entries.{Asks}
 use Rattle.reader.specs.Sections.{in_form, words, word_from, room_of, terms_in, with_count}
-use Rattle.reader.specs.contracts.sections.Sections as sections
 
 pub capitals : (which : Sections) → Capitals (in_form which).word
 unfolding NODES LANES CLOSED CARRIERS ORDER DWELL
@@ -94,9 +92,7 @@ asks_still (Listed Moves) n job closed read asks = asks
 asks_still (Listed Places) n job closed read asks = asks
 asks_still Dwell n job closed read asks = tt
 
-pub no_entries : (which : Sections) → OneOf (0 ∷ 1 ∷ []) (tag_of sections.the_type which)
-    → (n : ℕ) → due (in_form which) n ≡ 0
+pub no_entries : (which : Sections) → ((e : Entries) → ¬ (which ≡ Listed e)) → (n : ℕ) → due (in_form which) n ≡ 0
 no_entries Nodes h n = refl
 no_entries Dwell h n = refl
-no_entries (Listed entries) (inl e) n = absurd (let x : ⊥ = omega arith in x)
-no_entries (Listed entries) (inr e) n = absurd (let x : ⊥ = omega arith in x)
+no_entries (Listed entries) h n = absurd (h entries refl)

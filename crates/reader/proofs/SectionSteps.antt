@@ -4,17 +4,15 @@
 --     word_there        its word is among the words
 --     step_missing      no line of its count stands, and it may be missing
 --     step_lacks        no line of its count stands, and it must: refused with 1
---     step_below, step-above    its count is too small, or too great: refused with 2
+--     step_below, step_above    its count is too small, or too great: refused with 2
 --     step_counted      its count fits, and is all
---     entries_ready, step-entries    its count fits, and its entries may be read, and were
+--     entries_ready, step_entries    its count fits, and its entries may be read, and were
 use mathlib.Core.Path.{◌≡◌, refl, sym, ◌∙◌, ap, subst}
 use mathlib.Core.Logic.{◌↔◌, inl, inr}
 use mathlib.Core.List.{List, [], ◌∷◌}
 use mathlib.Core.Bool.{true, false}
 use Prim.Native.Nat.{ℕ, ◌*◌, ◌≤◌, ◌<◌}
 use native.Mathlib.Omega.{arith}
-use types.Run.{OneOf}
-use denote.Enum.Declared.{tag_of}
 use lib.ListN.{length, take, drop}
 use Rattle.hall.specs.declared.Fault.TheVariants.{Malformed, BadCount}
 use Rattle.hall.specs.declared.Job.{Job}
@@ -37,7 +35,6 @@ use Rattle.reader.specs.declared.sections.Terms.{Terms}
 use Rattle.reader.specs.Entries.{Asks, section_of, Begun, EntriesRead, EntriesAnswer}
 use Rattle.reader.specs.Sections.{in_form, words, word_from, room_of, terms_in, with_count, Stood, ReadyAt}
 use Rattle.reader.specs.Sections.{Ready, SectionRead, SectionAnswer, SectionStep}
-use Rattle.reader.specs.contracts.sections.Sections as sections
 use Rattle.reader.proofs.Left.{beyond_zeroed, laid_filled}
 use Rattle.reader.proofs.Skipped.{skipped_lacking}
 use Rattle.reader.proofs.SectionKinds.{capitals, word_in, limited, form_terms, room_for, asks_still}
@@ -169,7 +166,7 @@ module _ (text closed : List ℕ) (which : Sections) (p : Progress) (job : Job) 
                   x.stored (kept ∙ ap (drop many) zeros_here);
             }
 
-        pub step_counted : OneOf (0 ∷ 1 ∷ []) (tag_of sections.the_type which)
+        pub step_counted : ((e : Entries) → ¬ (which ≡ Listed e))
             → SectionStep text closed which before table p (Progress.On job' next)
         step_counted alone = rw on (record {
           takes = λ read left asks x. inl (section_read read left asks table refl refl next

@@ -1,7 +1,7 @@
 -- Sections that are passed over, since they may be missing and no line of their counts stands here. Which
 -- line may come next is the same with them and without them, and so is whether the text may end: what stands
 -- at the front of the rest is no line of theirs. Assumes nothing.
---     skips_back, skips-on    the section whose line stands here may come next of all the sections exactly
+--     skips_back, skips_on    the section whose line stands here may come next of all the sections exactly
 --                             if it may of those left
 --     skips_lack              all the sections may be missing exactly if those left may
 --     skip_more               one more section is missing

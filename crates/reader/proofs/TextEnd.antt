@@ -1,7 +1,7 @@
 -- The end of a text: the dwell, whose section has one line and may be missing, and then no byte more. At the
 -- end the sections are the job that the text writes; its dwell is the count of its section, or 0. Assumes
 -- nothing.
---     end_lacks, end-here    bytes are left, or none is
+--     end_lacks, end_here    bytes are left, or none is
 --     after_dwell      the section was read, or is missing
 --     text_answer      the answer at the end
 use mathlib.Core.Path.{◌≡◌, refl, sym, ◌∙◌, ap, subst}

@@ -2,16 +2,16 @@
 -- (TextStands.antt) to what holds behind its own; or the text is refused, and stays so. A section that is
 -- added to the form is one more such step. The last of them, that of the dwell, and the end are in
 -- TextEnd.antt. Assumes nothing.
---     after_nodes, after-lanes, after-closed, after-carriers, after-order    the section was read, or is
+--     after_nodes, after_lanes, after_closed, after_carriers, after_order    the section was read, or is
 --                      missing
 use mathlib.Core.Path.{◌≡◌, refl, sym, ◌∙◌, ap, subst}
 use mathlib.Core.List.{List, [], ◌∷◌, ◌++◌, append_assoc}
 use Prim.Native.Nat.{ℕ, ◌*◌, ◌≤◌}
 use native.Mathlib.Omega.{arith}
-use lib.ListN.{length, take}
+use lib.ListN.{length}
 use Rattle.hall.specs.declared.Job.{Job}
 use Rattle.hall.specs.Limits.{node_limit}
-use Rattle.hall.proofs.Left.{filled_none, zeroed_length}
+use Rattle.hall.proofs.Left.{filled_none}
 use Rattle.form.specs.Sections.{Content, content, numbers_in}
 use Rattle.form.specs.Words.{NODES, LANES, CARRIERS, ORDER}
 use Rattle.form.proofs.JobSections.{closed_read, closed_stands}

@@ -1,7 +1,7 @@
 -- A whole text: the steps of its sections from the beginning to the end, each with what makes the next one
 -- ready, and the answer. The nodes and the dwell go into no table and leave the one that they are lent.
 -- Assumes nothing.
---     ready_nodes, ready-lanes, ready-closed, ready-moves, ready-order, ready-dwell    the section may be
+--     ready_nodes, ready_lanes, ready_closed, ready_moves, ready_order, ready_dwell    the section may be
 --                      read
 --     none_short       tables that are long enough are not too short
 --     text_read        the answer, and what is left in the tables

@@ -16,7 +16,7 @@ use hall::{Fault, Job, Refusal};
 use network::entries::Entries;
 
 // The sections by name: two are their count alone, the others list entries below it.
-#[derive(Drop)]
+#[derive(Clone, Copy)]
 pub enum Sections {
     Nodes,
     Dwell,
