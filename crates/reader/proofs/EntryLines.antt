@@ -2,7 +2,8 @@
 -- proofs/Tables.antt), and the loop over the lines is these steps one after the other. The loop's invariant
 -- hands on what holds at its beginning, for whatever was read before; the line of the cursor follows from the
 -- form alone. The measure is how many lines are left. Assumes nothing.
---     stored_one, stored_two    an entry's line was taken and its numbers stored
+--     stored_one, stored_two, not_stored    an entry's line was taken and its numbers stored, or there is
+--                         none
 --     LinesRead           the invariant: k lines were read
 --     lines_begin, lines_next, lines_end    how it begins, goes on and ends
 --     lines_lack, lines_fail    a line has not the form of an entry, or fails a check
@@ -22,6 +23,7 @@ use Rattle.hall.specs.declared.Checked.{Checked}
 use Rattle.hall.specs.declared.Checked.TheVariants.{Sound}
 use Rattle.hall.specs.Stages.{only_at}
 use Rattle.hall.specs.Said.{Judged}
+use Rattle.form.specs.Lines.{Entered}
 use Rattle.form.specs.Sections.{Form, Content}
 use Rattle.form.specs.Stands.{Stand, within}
 use Rattle.form.specs.JobText.{job_text}
@@ -71,6 +73,10 @@ module _ (text : List ℕ) (k : ℕ) (here : Cursor) (table : List ℕ) where
     kept = drop-set-lt (2 * suc k) (set table (2 * k) a) (2 * k + 1) b (omega arith)
         ∙ drop-set-lt (2 * suc k) table (2 * k) a (omega arith);
   }
+
+  pub not_stored : (size : ℕ) → ¬ Entered size (drop here.at text)
+      → EntryStored text size k here table table Stepped.Bad
+  not_stored size none = record { answer = none; kept = refl }
 
 -- ---- all lines
 

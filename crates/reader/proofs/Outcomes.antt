@@ -1,21 +1,25 @@
--- A text that was read and refused fits the promise of reading: the tables are zeroed then. Assumes nothing.
+-- The answers of reading a whole text fit its promise: a table is too short; or the text was read and is
+-- accepted; or it is refused, and the tables are zeroed. Assumes nothing.
 --     long_enough      no table is too short
---     read_refused     the text is refused
-use mathlib.Core.Path.{◌≡◌, sym, ◌∙◌}
+--     read_short, read_accepted, read_refused    the three answers
+use mathlib.Core.Path.{◌≡◌, refl, sym, ◌∙◌}
 use mathlib.Core.Logic.{inl, inr}
 use mathlib.Core.List.{List}
 use Prim.Native.Nat.{ℕ, ◌≤◌, ◌<◌}
 use native.Mathlib.Omega.{arith}
 use lib.ListN.{length, drop}
+use Rattle.hall.specs.declared.Fault.TheVariants.{ShortTable}
+use Rattle.hall.specs.declared.Job.{Job}
 use Rattle.hall.specs.declared.Refusal.{Refusal}
 use Rattle.hall.specs.Limits.{node_limit, carrier_limit, lane_numbers, move_numbers}
 use Rattle.hall.specs.Numbers.{number_of}
+use Rattle.hall.specs.Said.{refused}
 use Rattle.hall.specs.Left.{zeroed, left}
 use Rattle.hall.proofs.Left.{left_by_other}
 use Rattle.form.proofs.JobTexts.{refused_with}
 use Rattle.reader.specs.declared.Read.{Read}
 use Rattle.reader.specs.Entries.{RefusedBy}
-use Rattle.reader.specs.Reading.{said_read, AnyShort, faulty, ReadInto}
+use Rattle.reader.specs.Reading.{said_read, AnyShort, short, faulty, ReadInto}
 use Rattle.reader.specs.Text.{Long, TextRead}
 use Rattle.reader.proofs.Left.{zeroed_again}
 
@@ -34,8 +38,22 @@ long_enough lanes closed moves order h =
     }
 
 module _ (text lanes closed moves order : List ℕ) where
+  pub read_short : AnyShort lanes closed moves order
+      → ReadInto text lanes closed moves order lanes closed moves order (refused (number_of ShortTable) 0)
+  read_short h = record {
+    reason = short h refl refl;
+    lanes_left_lem = refl;
+    closed_left = refl;
+    moves_left = refl;
+    order_left = refl;
+  }
+
   module _ (lanes' closed' moves' order' : List ℕ) (answer : Read)
       (x : TextRead text lanes closed moves order lanes' closed' moves' order' answer) where
+    pub read_accepted : (counts : Job) → answer ≡ Read.Job counts
+        → ReadInto text lanes closed moves order lanes' closed' moves' order' (said_read answer)
+    read_accepted counts e = rw e (rw e at x.answer)
+
     -- what zeroing leaves of a table that was not touched beyond its least length
     left_zeroed : (r : Refusal) → RefusedBy text r → (least : ℕ) (before after last : List ℕ)
         → least ≤ length before → length after ≡ length before → drop least after ≡ drop least before
