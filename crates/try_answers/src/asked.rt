@@ -5,6 +5,8 @@ use asks::{house_for, judge_for};
 use hall::Carrier;
 use path::{choose, house, judge};
 use planner::plan_moves;
+use std::io;
+use std::io::Write;
 use try_batch::marked::{
     lend_bytes, lend_numbers, lend_shorts, marked_bytes, marked_shorts, print_runs, print_written,
 };
@@ -12,7 +14,8 @@ use try_batch::payload::{behind_list, list_room, loaded_list, rest, short_at};
 use try_batch::print;
 use writer::{Written, write_numbers};
 
-pub(crate) fn ask(
+pub(crate) fn ask<W: Write>(
+    out: &mut W,
     kind: u8,
     s: &[u8],
     nodes: usize,
@@ -21,23 +24,24 @@ pub(crate) fn ask(
     moves: &[u16],
     order: &[u16],
     dwell: usize,
-) {
+) -> io::Result<()> {
     match kind {
-        b't' => plan(s, nodes, lanes, closed, moves, order, dwell),
-        b'H' => print_house_for(s, nodes, lanes, closed, moves, order, dwell),
-        b'Q' => print_judged_for(s, nodes, lanes, closed, moves, order, dwell),
-        b'W' | b'x' => write(s, nodes, lanes, closed, moves, order, dwell),
-        b'q' => print_judged(s, nodes, lanes, closed),
+        b't' => plan(out, s, nodes, lanes, closed, moves, order, dwell),
+        b'H' => print_house_for(out, s, nodes, lanes, closed, moves, order, dwell),
+        b'Q' => print_judged_for(out, s, nodes, lanes, closed, moves, order, dwell),
+        b'W' | b'x' => write(out, s, nodes, lanes, closed, moves, order, dwell),
+        b'q' => print_judged(out, s, nodes, lanes, closed),
         b'n' => {
-            print_house(s, nodes, lanes, closed);
-            print_judged(s, nodes, lanes, closed);
+            print_house(out, s, nodes, lanes, closed)?;
+            print_judged(out, s, nodes, lanes, closed)
         }
-        b'C' | b'c' => print_chosen(s, nodes, lanes, closed),
-        _ => print_house(s, nodes, lanes, closed),
+        b'C' | b'c' => print_chosen(out, s, nodes, lanes, closed),
+        _ => print_house(out, s, nodes, lanes, closed),
     }
 }
 
-fn plan(
+fn plan<W: Write>(
+    out: &mut W,
     s: &[u8],
     nodes: usize,
     lanes: &[u16],
@@ -45,11 +49,11 @@ fn plan(
     moves: &[u16],
     order: &[u16],
     dwell: usize,
-) {
+) -> io::Result<()> {
     let mut table = marked_shorts();
     let mut distances = [7777u16; 100];
     let mut ticks = [7777u32; 100];
-    print::planned(plan_moves(
+    let planned = plan_moves(
         nodes,
         lanes,
         closed,
@@ -59,13 +63,15 @@ fn plan(
         lend_shorts(&mut table, s, 0),
         lend_shorts(&mut distances, s, 2),
         lend_numbers(&mut ticks, s, 4),
-    ));
-    print_runs(b"table", &[], &table, &[]);
-    print_runs(b"distances", &[], &distances, &[]);
-    print_runs(b"ticks", &[], &[], &ticks);
+    );
+    print::planned(out, planned)?;
+    print_runs(out, b"table", &[], &table, &[])?;
+    print_runs(out, b"distances", &[], &distances, &[])?;
+    print_runs(out, b"ticks", &[], &[], &ticks)
 }
 
-fn print_house_for(
+fn print_house_for<W: Write>(
+    out: &mut W,
     s: &[u8],
     nodes: usize,
     lanes: &[u16],
@@ -73,9 +79,9 @@ fn print_house_for(
     moves: &[u16],
     order: &[u16],
     dwell: usize,
-) {
+) -> io::Result<()> {
     let mut path = [7777u16; 1100];
-    print::housed(house_for(
+    let housed = house_for(
         nodes,
         lanes,
         closed,
@@ -84,11 +90,13 @@ fn print_house_for(
         dwell,
         Carrier(short_at(s, 2)),
         lend_shorts(&mut path, s, 0),
-    ));
-    print_runs(b"path", &[], &path, &[]);
+    );
+    print::housed(out, housed)?;
+    print_runs(out, b"path", &[], &path, &[])
 }
 
-fn print_judged_for(
+fn print_judged_for<W: Write>(
+    out: &mut W,
     s: &[u8],
     nodes: usize,
     lanes: &[u16],
@@ -96,9 +104,9 @@ fn print_judged_for(
     moves: &[u16],
     order: &[u16],
     dwell: usize,
-) {
+) -> io::Result<()> {
     let mut room = list_room();
-    print::judged(judge_for(
+    let judged = judge_for(
         nodes,
         lanes,
         closed,
@@ -107,12 +115,14 @@ fn print_judged_for(
         dwell,
         Carrier(short_at(s, 2)),
         loaded_list(rest(s, 8), &mut room),
-    ));
+    );
+    print::judged(out, judged)
 }
 
 // The job is written once, and then as often as the payload's second number says: the benchmark gets the time
 // of writing from that.
-fn write(
+fn write<W: Write>(
+    out: &mut W,
     s: &[u8],
     nodes: usize,
     lanes: &[u16],
@@ -120,8 +130,8 @@ fn write(
     moves: &[u16],
     order: &[u16],
     dwell: usize,
-) {
-    let mut out = marked_bytes();
+) -> io::Result<()> {
+    let mut bytes = marked_bytes();
     let answer = write_often(
         short_at(s, 2),
         nodes,
@@ -130,9 +140,9 @@ fn write(
         moves,
         order,
         dwell,
-        lend_bytes(&mut out, s, 0),
+        lend_bytes(&mut bytes, s, 0),
     );
-    print_written(answer, &out);
+    print_written(out, answer, &bytes)
 }
 
 // Each writing leaves the same in the output, and the last is answered.
@@ -156,21 +166,45 @@ fn write_often(
 
 // ---- questions about a move
 
-fn print_house(s: &[u8], nodes: usize, lanes: &[u16], closed: &[u16]) {
+fn print_house<W: Write>(
+    out: &mut W,
+    s: &[u8],
+    nodes: usize,
+    lanes: &[u16],
+    closed: &[u16],
+) -> io::Result<()> {
     let mut path = [7777u16; 1100];
     let lent = lend_shorts(&mut path, s, 0);
-    print::housed(house(nodes, lanes, closed, short_at(s, 2), short_at(s, 4), lent));
-    print_runs(b"path", &[], &path, &[]);
+    print::housed(
+        out,
+        house(nodes, lanes, closed, short_at(s, 2), short_at(s, 4), lent),
+    )?;
+    print_runs(out, b"path", &[], &path, &[])
 }
 
-fn print_judged(s: &[u8], nodes: usize, lanes: &[u16], closed: &[u16]) {
+fn print_judged<W: Write>(
+    out: &mut W,
+    s: &[u8],
+    nodes: usize,
+    lanes: &[u16],
+    closed: &[u16],
+) -> io::Result<()> {
     let mut room = list_room();
     let list = loaded_list(rest(s, 8), &mut room);
-    print::judged(judge(nodes, lanes, closed, short_at(s, 2), short_at(s, 4), list));
+    print::judged(
+        out,
+        judge(nodes, lanes, closed, short_at(s, 2), short_at(s, 4), list),
+    )
 }
 
 // The choice, and how long the chosen list is.
-fn print_chosen(s: &[u8], nodes: usize, lanes: &[u16], closed: &[u16]) {
+fn print_chosen<W: Write>(
+    out: &mut W,
+    s: &[u8],
+    nodes: usize,
+    lanes: &[u16],
+    closed: &[u16],
+) -> io::Result<()> {
     let from = rest(s, 8);
     let mut own_room = list_room();
     let mut spare_room = list_room();
@@ -185,6 +219,6 @@ fn print_chosen(s: &[u8], nodes: usize, lanes: &[u16], closed: &[u16]) {
         own,
         spare,
     );
-    print::chosen(chosen, own);
-    print::line(b"", chosen.len() as u64);
+    print::chosen(out, chosen, own)?;
+    print::line(out, b"", chosen.len() as u64)
 }

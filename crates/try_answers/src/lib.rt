@@ -8,23 +8,25 @@ mod asked;
 mod text;
 
 use asked::ask;
+use std::io;
+use std::io::Write;
 use try_batch::payload::{behind_list, body, job_room, loaded_list, long_at, rest};
 use try_batch::print;
 
-pub fn answer(kind: u8, s: &[u8]) {
+pub fn answer<W: Write>(out: &mut W, kind: u8, s: &[u8]) -> io::Result<()> {
     let from = body(s);
     match kind {
-        b'P' => text::plan(from),
-        b'a' => text::print_to(s, from),
-        b'm' => text::read(s, from),
-        b'H' | b'h' | b'Q' | b'q' | b'C' | b'W' => text::ask_of(kind, s, from),
-        b't' | b'w' | b'n' | b'c' | b'x' => ask_numbers(kind, s, from),
-        _ => print::word(b"no such kind\n"),
+        b'P' => text::plan(out, from),
+        b'a' => text::print_to(out, s, from),
+        b'm' => text::read(out, s, from),
+        b'H' | b'h' | b'Q' | b'q' | b'C' | b'W' => text::ask_of(out, kind, s, from),
+        b't' | b'w' | b'n' | b'c' | b'x' => ask_numbers(out, kind, s, from),
+        _ => print::word(out, b"no such kind\n"),
     }
 }
 
 // A question about a job from numbers: nodes, lane numbers, closed nodes, moves, order and dwell.
-fn ask_numbers(kind: u8, s: &[u8], job: &[u8]) {
+fn ask_numbers<W: Write>(out: &mut W, kind: u8, s: &[u8], job: &[u8]) -> io::Result<()> {
     let mut lanes = job_room();
     let mut closed = job_room();
     let mut moves = job_room();
@@ -34,6 +36,7 @@ fn ask_numbers(kind: u8, s: &[u8], job: &[u8]) {
     let carriers = behind_list(behind_lanes);
     let places = behind_list(carriers);
     ask(
+        out,
         kind,
         s,
         long_at(job, 0) as usize,
@@ -42,5 +45,5 @@ fn ask_numbers(kind: u8, s: &[u8], job: &[u8]) {
         loaded_list(carriers, &mut moves),
         loaded_list(places, &mut order),
         long_at(behind_list(places), 0) as usize,
-    );
+    )
 }

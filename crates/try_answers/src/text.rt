@@ -3,46 +3,49 @@
 use super::asked::ask;
 use hall::Job;
 use reader::{Read, read_numbers};
+use std::io;
+use std::io::Write;
 use try_batch::marked::{lend_bytes, lend_shorts, marked_shorts, print_runs};
 use try_batch::payload::{front, least, opening, short_at};
 use try_batch::print;
 
 // The answer to a text, as it is printed.
-pub(crate) fn plan(text: &[u8]) {
-    let mut out = [0u8; 2048];
-    let n = report::answer(text, &mut out);
-    print::word(opening(&out, n));
+pub(crate) fn plan<W: Write>(out: &mut W, text: &[u8]) -> io::Result<()> {
+    let mut room = [0u8; 2048];
+    let n = report::answer(text, &mut room);
+    print::word(out, opening(&room, n))
 }
 
 // How many bytes the answer has, and what all bytes hold.
-pub(crate) fn print_to(s: &[u8], text: &[u8]) {
-    let mut out = [77u8; 2100];
-    let count = report::answer(text, lend_bytes(&mut out, s, 0));
-    print::line(b"BYTES ", count as u64);
-    print_runs(b"out", &out, &[], &[]);
+pub(crate) fn print_to<W: Write>(out: &mut W, s: &[u8], text: &[u8]) -> io::Result<()> {
+    let mut room = [77u8; 2100];
+    let count = report::answer(text, lend_bytes(&mut room, s, 0));
+    print::line(out, b"BYTES ", count as u64)?;
+    print_runs(out, b"out", &room, &[], &[])
 }
 
-pub(crate) fn read(s: &[u8], text: &[u8]) {
+pub(crate) fn read<W: Write>(out: &mut W, s: &[u8], text: &[u8]) -> io::Result<()> {
     let mut lanes = marked_shorts();
     let mut closed = [7777u16; 1100];
     let mut moves = [7777u16; 200];
     let mut order = [7777u16; 100];
-    print::read(read_numbers(
+    let read = read_numbers(
         text,
         lend_shorts(&mut lanes, s, 0),
         lend_shorts(&mut closed, s, 2),
         lend_shorts(&mut moves, s, 4),
         lend_shorts(&mut order, s, 6),
-    ));
-    print_runs(b"lanes", &[], &lanes, &[]);
-    print_runs(b"closed", &[], &closed, &[]);
-    print_runs(b"moves", &[], &moves, &[]);
-    print_runs(b"order", &[], &order, &[]);
+    );
+    print::read(out, read)?;
+    print_runs(out, b"lanes", &[], &lanes, &[])?;
+    print_runs(out, b"closed", &[], &closed, &[])?;
+    print_runs(out, b"moves", &[], &moves, &[])?;
+    print_runs(out, b"order", &[], &order, &[])
 }
 
 // A question about the job of a text. The text is read once, and then as often as the payload's last number
 // says: the benchmark gets the time of reading from that.
-pub(crate) fn ask_of(kind: u8, s: &[u8], text: &[u8]) {
+pub(crate) fn ask_of<W: Write>(out: &mut W, kind: u8, s: &[u8], text: &[u8]) -> io::Result<()> {
     let mut lanes = [0u16; Job::LANE_NUMBERS];
     let mut closed = [0u16; Job::NODES];
     let mut moves = [0u16; Job::MOVE_NUMBERS];
@@ -60,6 +63,7 @@ pub(crate) fn ask_of(kind: u8, s: &[u8], text: &[u8]) {
             let lane_count = least(job.lanes, Job::LANES);
             let count = least(job.carriers, Job::CARRIERS);
             ask(
+                out,
                 kind,
                 s,
                 job.nodes,
@@ -68,9 +72,9 @@ pub(crate) fn ask_of(kind: u8, s: &[u8], text: &[u8]) {
                 front(&moves, 2 * count),
                 front(&order, count),
                 job.dwell,
-            );
+            )
         }
-        Read::Refused(r) => print::refused(r),
+        Read::Refused(r) => print::refused(out, r),
     }
 }
 

@@ -38,10 +38,10 @@ pub fn payload_room() -> [u8; 262144]
 // that the payload fits into the space, which keeps its length, and that the end of the batch leaves the space
 // as it came; or that reading or printing failed.
 pub fn next_case<R: Read, W: Write>(
-    number: u64,
-    space: &mut [u8],
     input: &mut R,
     out: &mut W,
+    number: u64,
+    space: &mut [u8],
 ) -> io::Result<Head>
     ensures { IfOk result (CaseRead space.old space.new) }
 {

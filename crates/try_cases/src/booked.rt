@@ -5,6 +5,8 @@
 // time of an admission from that.
 use admission::Answer;
 use slots::{Book, Slot};
+use std::io;
+use std::io::Write;
 use try_batch::marked::print_runs;
 use try_batch::payload::{behind_list, job_room, loaded_list, long_at, rest, short_at};
 use try_batch::print;
@@ -41,7 +43,12 @@ pub(crate) fn book_at(s: &[u8]) -> Book {
 
 // The numbers of a book, in the order in which a payload has them. The slots come by themselves, since of an
 // array that lies in a struct a function does not know the length.
-pub(crate) fn print_book(clock: u32, dwell: u32, slots: [Slot; Book::SLOTS]) {
+pub(crate) fn print_book<W: Write>(
+    out: &mut W,
+    clock: u32,
+    dwell: u32,
+    slots: [Slot; Book::SLOTS],
+) -> io::Result<()> {
     let mut numbers = [0u32; 258];
     numbers[0] = clock;
     numbers[1] = dwell;
@@ -55,23 +62,24 @@ pub(crate) fn print_book(clock: u32, dwell: u32, slots: [Slot; Book::SLOTS]) {
         numbers[at + 3] = slot.tick;
         i += 1;
     }
-    print_runs(b"book", &[], &[], &numbers);
+    print_runs(out, b"book", &[], &[], &numbers)
 }
 
-fn print_answer(answer: Answer) {
+fn print_answer<W: Write>(out: &mut W, answer: Answer) -> io::Result<()> {
     match answer {
         Answer::Starts(entry) => {
-            print::word(b"STARTS ");
-            print::number(entry.tick as u64);
-            print::line(b" ", entry.slot as u64);
+            print::word(out, b"STARTS ")?;
+            print::number(out, entry.tick as u64)?;
+            print::line(out, b" ", entry.slot as u64)
         }
-        Answer::Refused(r) => print::refused(r),
+        Answer::Refused(r) => print::refused(out, r),
     }
 }
 
 // One call: its answer is printed, and what it leaves is the result. Further calls on the same book have the
 // same answer, and nothing of them is kept.
-pub(crate) fn call(
+pub(crate) fn call<W: Write>(
+    out: &mut W,
     further: u16,
     clock: u32,
     start: u16,
@@ -80,7 +88,7 @@ pub(crate) fn call(
     lanes: &[u16],
     closed: &[u16],
     book: Book,
-) -> Book {
+) -> io::Result<Book> {
     let mut i: u16 = 0;
     while i < further {
         admit_lent(book, clock, nodes, lanes, closed, start, goal);
@@ -88,13 +96,21 @@ pub(crate) fn call(
     }
     let done = admit_lent(book, clock, nodes, lanes, closed, start, goal);
     let answer = done.answer;
-    print_answer(answer);
-    done.book
+    print_answer(out, answer)?;
+    Ok(done.book)
 }
 
 // The calls one after the other. The book is told at the end, and where every call is to be followed by it
 // also before each call but the first.
-fn call_all(s: &[u8], calls: &[u8], nodes: usize, lanes: &[u16], closed: &[u16], book: Book) {
+fn call_all<W: Write>(
+    out: &mut W,
+    s: &[u8],
+    calls: &[u8],
+    nodes: usize,
+    lanes: &[u16],
+    closed: &[u16],
+    book: Book,
+) -> io::Result<()> {
     let count = short_at(s, 0);
     let every = short_at(s, 2);
     let further = short_at(s, 4);
@@ -103,10 +119,11 @@ fn call_all(s: &[u8], calls: &[u8], nodes: usize, lanes: &[u16], closed: &[u16],
     while i < count {
         if 0 < i && 0 < every {
             let slots = held.slots;
-            print_book(held.clock, held.dwell, slots);
+            print_book(out, held.clock, held.dwell, slots)?;
         }
         let from = rest(calls, CALL_BYTES * i as usize);
         held = call(
+            out,
             further,
             long_at(from, 0),
             short_at(from, 4),
@@ -115,15 +132,15 @@ fn call_all(s: &[u8], calls: &[u8], nodes: usize, lanes: &[u16], closed: &[u16],
             lanes,
             closed,
             held,
-        );
+        )?;
         i += 1;
     }
     let slots = held.slots;
-    print_book(held.clock, held.dwell, slots);
+    print_book(out, held.clock, held.dwell, slots)
 }
 
 // The question. Its network is a job without moves and order, and the book stands behind the job's dwell.
-pub(crate) fn admit(s: &[u8], job: &[u8]) {
+pub(crate) fn admit<W: Write>(out: &mut W, s: &[u8], job: &[u8]) -> io::Result<()> {
     let network = rest(job, 4);
     let behind_lanes = behind_list(network);
     let places = behind_list(behind_list(behind_lanes));
@@ -131,11 +148,12 @@ pub(crate) fn admit(s: &[u8], job: &[u8]) {
     let mut lane_space = job_room();
     let mut closed_space = job_room();
     call_all(
+        out,
         s,
         rest(from, BOOK_BYTES),
         long_at(job, 0) as usize,
         loaded_list(network, &mut lane_space),
         loaded_list(behind_lanes, &mut closed_space),
         book_at(from),
-    );
+    )
 }

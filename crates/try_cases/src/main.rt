@@ -7,30 +7,39 @@ mod booked;
 mod recorded;
 mod trolleys;
 
+use std::io;
+use std::io::{BufWriter, Read, Write};
 use try_answers::answer;
 use try_batch::payload::{body, opening};
 use try_batch::{Head, next_case, payload_room};
 
-fn answer_case(kind: u8, s: &[u8]) {
+fn answer_case<W: Write>(out: &mut W, kind: u8, s: &[u8]) -> io::Result<()> {
     match kind {
-        b'B' => booked::admit(s, body(s)),
-        b'T' => trolleys::admit_all(s, body(s)),
-        b'r' => recorded::read(s, body(s)),
-        b'p' | b'o' | b'j' | b'y' => recorded::ask(kind, s, body(s)),
-        _ => answer(kind, s),
+        b'B' => booked::admit(out, s, body(s)),
+        b'T' => trolleys::admit_all(out, s, body(s)),
+        b'r' => recorded::read(out, s, body(s)),
+        b'p' | b'o' | b'j' | b'y' => recorded::ask(out, kind, s, body(s)),
+        _ => answer(out, kind, s),
     }
 }
 
 // A proved loop has to end, and nothing says that the input does. So the loop counts its turns, up to a
 // number that no run uses up.
-fn main() {
+fn answer_all<R: Read, W: Write>(input: &mut R, out: &mut W) -> io::Result<()> {
     let mut space = payload_room();
     let mut number: u64 = 0;
     while number < 1000000000 {
-        let Head::Case(kind, count) = next_case(number, &mut space) else {
-            return;
+        let Head::Case(kind, count) = next_case(input, out, number, &mut space)? else {
+            return Ok(());
         };
-        answer_case(kind, opening(&space, count));
+        answer_case(out, kind, opening(&space, count))?;
         number += 1;
     }
+    Ok(())
+}
+
+fn main(rt: HostRuntime) -> io::Result<()> {
+    let mut out = BufWriter::new(rt.alloc(), rt.stdout())?;
+    answer_all(&mut rt.stdin(), &mut out)?;
+    out.flush()
 }

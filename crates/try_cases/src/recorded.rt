@@ -4,6 +4,8 @@
 // printed where it may change them; those that get a shared list cannot.
 use hall::Carrier;
 use records::Record;
+use std::io;
+use std::io::Write;
 use try_batch::marked::{
     lend_bytes, lend_shorts, marked_bytes, marked_shorts, print_runs, print_written,
 };
@@ -12,13 +14,13 @@ use try_batch::print;
 use try_columns::{LENDABLE, made};
 use try_records::{house_lent, judge_lent, plan_lent, read_lent, write_lent};
 
-pub(crate) fn read(s: &[u8], text: &[u8]) {
+pub(crate) fn read<W: Write>(out: &mut W, s: &[u8], text: &[u8]) -> io::Result<()> {
     let mut lanes = marked_shorts();
     let mut closed = [7777u16; 1100];
     let mut order = [7777u16; 100];
     let mut fields = [7777u32; 320];
     let records = made(&fields);
-    print::read(read_lent(
+    let read = read_lent(
         text,
         lend_shorts(&mut lanes, s, 0),
         lend_shorts(&mut closed, s, 2),
@@ -26,11 +28,12 @@ pub(crate) fn read(s: &[u8], text: &[u8]) {
         lend_shorts(&mut order, s, 6),
         records,
         &mut fields,
-    ));
-    print_runs(b"lanes", &[], &lanes, &[]);
-    print_runs(b"closed", &[], &closed, &[]);
-    print_runs(b"records", &[], &[], &fields);
-    print_runs(b"order", &[], &order, &[]);
+    );
+    print::read(out, read)?;
+    print_runs(out, b"lanes", &[], &lanes, &[])?;
+    print_runs(out, b"closed", &[], &closed, &[])?;
+    print_runs(out, b"records", &[], &[], &fields)?;
+    print_runs(out, b"order", &[], &order, &[])
 }
 
 // The records whose numbers stand at the front of a payload, of four bytes each.
@@ -45,7 +48,7 @@ fn records_at(s: &[u8]) -> [Record; LENDABLE] {
 }
 
 // A question about a job with records.
-pub(crate) fn ask(kind: u8, s: &[u8], job: &[u8]) {
+pub(crate) fn ask<W: Write>(out: &mut W, kind: u8, s: &[u8], job: &[u8]) -> io::Result<()> {
     let network = rest(job, 4);
     let behind_lanes = behind_list(network);
     let places = behind_list(behind_list(behind_lanes));
@@ -61,14 +64,15 @@ pub(crate) fn ask(kind: u8, s: &[u8], job: &[u8]) {
     let closed = loaded_list(behind_lanes, &mut closed_space);
     let order = loaded_list(places, &mut order_space);
     match kind {
-        b'p' => plan(s, nodes, lanes, closed, count, order, dwell, records),
-        b'o' => house(s, nodes, lanes, closed, count, order, dwell, records),
-        b'y' => write(s, nodes, lanes, closed, count, order, dwell, records),
-        _ => judge(s, nodes, lanes, closed, count, order, dwell, records),
+        b'p' => plan(out, s, nodes, lanes, closed, count, order, dwell, records),
+        b'o' => house(out, s, nodes, lanes, closed, count, order, dwell, records),
+        b'y' => write(out, s, nodes, lanes, closed, count, order, dwell, records),
+        _ => judge(out, s, nodes, lanes, closed, count, order, dwell, records),
     }
 }
 
-fn plan(
+fn plan<W: Write>(
+    out: &mut W,
     s: &[u8],
     nodes: usize,
     lanes: &[u16],
@@ -77,10 +81,10 @@ fn plan(
     order: &[u16],
     dwell: usize,
     records: [Record; LENDABLE],
-) {
+) -> io::Result<()> {
     let mut table = marked_shorts();
     let mut fields = [7777u32; 320];
-    print::planned(plan_lent(
+    let planned = plan_lent(
         nodes,
         lanes,
         closed,
@@ -90,12 +94,14 @@ fn plan(
         lend_shorts(&mut table, s, 0),
         records,
         &mut fields,
-    ));
-    print_runs(b"table", &[], &table, &[]);
-    print_runs(b"records", &[], &[], &fields);
+    );
+    print::planned(out, planned)?;
+    print_runs(out, b"table", &[], &table, &[])?;
+    print_runs(out, b"records", &[], &[], &fields)
 }
 
-fn house(
+fn house<W: Write>(
+    out: &mut W,
     s: &[u8],
     nodes: usize,
     lanes: &[u16],
@@ -104,9 +110,9 @@ fn house(
     order: &[u16],
     dwell: usize,
     records: [Record; LENDABLE],
-) {
+) -> io::Result<()> {
     let mut path = [7777u16; 1100];
-    print::housed(house_lent(
+    let housed = house_lent(
         nodes,
         lanes,
         closed,
@@ -116,11 +122,13 @@ fn house(
         Carrier(short_at(s, 2)),
         lend_shorts(&mut path, s, 0),
         records,
-    ));
-    print_runs(b"path", &[], &path, &[]);
+    );
+    print::housed(out, housed)?;
+    print_runs(out, b"path", &[], &path, &[])
 }
 
-fn judge(
+fn judge<W: Write>(
+    out: &mut W,
     s: &[u8],
     nodes: usize,
     lanes: &[u16],
@@ -129,9 +137,9 @@ fn judge(
     order: &[u16],
     dwell: usize,
     records: [Record; LENDABLE],
-) {
+) -> io::Result<()> {
     let mut room = list_room();
-    print::judged(judge_lent(
+    let judged = judge_lent(
         nodes,
         lanes,
         closed,
@@ -141,10 +149,12 @@ fn judge(
         Carrier(short_at(s, 2)),
         loaded_list(rest(s, 8), &mut room),
         records,
-    ));
+    );
+    print::judged(out, judged)
 }
 
-fn write(
+fn write<W: Write>(
+    out: &mut W,
     s: &[u8],
     nodes: usize,
     lanes: &[u16],
@@ -153,8 +163,8 @@ fn write(
     order: &[u16],
     dwell: usize,
     records: [Record; LENDABLE],
-) {
-    let mut out = marked_bytes();
+) -> io::Result<()> {
+    let mut bytes = marked_bytes();
     let answer = write_lent(
         nodes,
         lanes,
@@ -162,8 +172,8 @@ fn write(
         count,
         order,
         dwell,
-        lend_bytes(&mut out, s, 0),
+        lend_bytes(&mut bytes, s, 0),
         records,
     );
-    print_written(answer, &out);
+    print_written(out, answer, &bytes)
 }

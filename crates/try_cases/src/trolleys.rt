@@ -7,6 +7,8 @@
 use crate::booked::{BOOK_BYTES, book_at, call, print_book};
 use admission::trolley::Ended;
 use slots::Book;
+use std::io;
+use std::io::Write;
 use try_batch::marked::{lend_numbers, print_runs};
 use try_batch::payload::{behind_list, job_room, loaded_list, long_at, rest, short_at};
 use try_batch::print;
@@ -18,20 +20,21 @@ const ONE_BY_ONE: u16 = 65535;
 // Where the moves of a trolley stand.
 const MOVES_AT: usize = 6;
 
-fn print_ended(ended: Ended) {
+fn print_ended<W: Write>(out: &mut W, ended: Ended) -> io::Result<()> {
     match ended {
-        Ended::All => print::word(b"ALL\n"),
+        Ended::All => print::word(out, b"ALL\n"),
         Ended::Stopped(k, r) => {
-            print::word(b"MOVE ");
-            print::number(k as u64);
-            print::word(b" ");
-            print::refused(r);
+            print::word(out, b"MOVE ")?;
+            print::number(out, k as u64)?;
+            print::word(out, b" ")?;
+            print::refused(out, r)
         }
-        Ended::Refused(r) => print::refused(r),
+        Ended::Refused(r) => print::refused(out, r),
     }
 }
 
-fn one_by_one(
+fn one_by_one<W: Write>(
+    out: &mut W,
     further: u16,
     clock: u32,
     nodes: usize,
@@ -39,26 +42,34 @@ fn one_by_one(
     closed: &[u16],
     moves: &[u16],
     book: Book,
-) -> Book {
+) -> io::Result<Book> {
     let count = moves.len() / 2;
     let mut held = book;
     let mut k: usize = 0;
     while k < count {
         let start = moves[2 * k];
         let goal = moves[2 * k + 1];
-        held = call(further, clock, start, goal, nodes, lanes, closed, held);
+        held = call(out, further, clock, start, goal, nodes, lanes, closed, held)?;
         k += 1;
     }
-    held
+    Ok(held)
 }
 
 // One trolley: how it ended and the list of ticks are printed, and what it leaves is the result.
-fn ride(further: u16, s: &[u8], nodes: usize, lanes: &[u16], closed: &[u16], book: Book) -> Book {
+fn ride<W: Write>(
+    out: &mut W,
+    further: u16,
+    s: &[u8],
+    nodes: usize,
+    lanes: &[u16],
+    closed: &[u16],
+    book: Book,
+) -> io::Result<Book> {
     let clock = long_at(s, 0);
     let mut space = job_room();
     let moves = loaded_list(rest(s, MOVES_AT), &mut space);
     if short_at(s, 4) == ONE_BY_ONE {
-        return one_by_one(further, clock, nodes, lanes, closed, moves, book);
+        return one_by_one(out, further, clock, nodes, lanes, closed, moves, book);
     }
     let mut i: u16 = 0;
     while i < further {
@@ -71,14 +82,22 @@ fn ride(further: u16, s: &[u8], nodes: usize, lanes: &[u16], closed: &[u16], boo
     let lent = lend_numbers(&mut ticks, s, 4);
     let rode = admit_all_lent(book, clock, nodes, lanes, closed, moves, lent);
     let ended = rode.ended;
-    print_ended(ended);
-    print_runs(b"ticks", &[], &[], &ticks);
-    rode.book
+    print_ended(out, ended)?;
+    print_runs(out, b"ticks", &[], &[], &ticks)?;
+    Ok(rode.book)
 }
 
 // The trolleys one after the other. The book is told at the end, and where every trolley is to be followed by
 // it also before each but the first.
-fn ride_all(s: &[u8], trolleys: &[u8], nodes: usize, lanes: &[u16], closed: &[u16], book: Book) {
+fn ride_all<W: Write>(
+    out: &mut W,
+    s: &[u8],
+    trolleys: &[u8],
+    nodes: usize,
+    lanes: &[u16],
+    closed: &[u16],
+    book: Book,
+) -> io::Result<()> {
     let count = short_at(s, 0);
     let every = short_at(s, 2);
     let further = short_at(s, 4);
@@ -88,18 +107,18 @@ fn ride_all(s: &[u8], trolleys: &[u8], nodes: usize, lanes: &[u16], closed: &[u1
     while i < count {
         if 0 < i && 0 < every {
             let slots = held.slots;
-            print_book(held.clock, held.dwell, slots);
+            print_book(out, held.clock, held.dwell, slots)?;
         }
-        held = ride(further, from, nodes, lanes, closed, held);
+        held = ride(out, further, from, nodes, lanes, closed, held)?;
         from = behind_list(rest(from, MOVES_AT));
         i += 1;
     }
     let slots = held.slots;
-    print_book(held.clock, held.dwell, slots);
+    print_book(out, held.clock, held.dwell, slots)
 }
 
 // The question. Its network is a job without moves and order, and the book stands behind the job's dwell.
-pub(crate) fn admit_all(s: &[u8], job: &[u8]) {
+pub(crate) fn admit_all<W: Write>(out: &mut W, s: &[u8], job: &[u8]) -> io::Result<()> {
     let network = rest(job, 4);
     let behind_lanes = behind_list(network);
     let places = behind_list(behind_list(behind_lanes));
@@ -107,11 +126,12 @@ pub(crate) fn admit_all(s: &[u8], job: &[u8]) {
     let mut lane_space = job_room();
     let mut closed_space = job_room();
     ride_all(
+        out,
         s,
         rest(from, BOOK_BYTES),
         long_at(job, 0) as usize,
         loaded_list(network, &mut lane_space),
         loaded_list(behind_lanes, &mut closed_space),
         book_at(from),
-    );
+    )
 }

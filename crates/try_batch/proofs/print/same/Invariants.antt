@@ -6,7 +6,7 @@ abbrev pub invariant-loop-i : goal.invariant-loop-i
 invariant-loop-i l = record {
   begun : l.i ≤ l.n;
   one : l.n ≤ length l.a;
-  two : l.n ≤ length l.b
+  two : l.n ≤ length l.b;
 }
 
 abbrev pub decreases-loop-i : goal.decreases-loop-i
