@@ -3,8 +3,8 @@
 -- at most k digits, so a carrier's line has at most 31 bytes, a plan of 64 carriers at most 2,008 and a
 -- refusal at most 33: each fits into 2,048 bytes, whatever numbers of their types are printed. The carriers'
 -- lines grow by a line a carrier. Assumes nothing.
---     carrier_parts, plan-parts, refused-parts    the texts by fields and words
---     no_lines, next-line    the lines of no carrier, and of one more
+--     carrier_parts, plan_parts, refused_parts    the texts by fields and words
+--     no_lines, next_line    the lines of no carrier, and of one more
 --     plan_fits              a plan of at most 64 carriers fits
 --     refused_fits           a refusal fits
 use mathlib.Core.Path.{◌≡◌, refl, sym, ◌∙◌, ap}

@@ -1,4 +1,5 @@
--- At the start no pair is put; each turn puts the two fields of one more; and at the end i pairs are all of them.
+-- At the start no pair is put; each turn puts the two fields of one more; and at the end i pairs are all
+-- of them.
 use Rattle.std.proofs.Common.{arith}
 use Rattle.put.proofs.Putting.{put_none, put_then}
 use Rattle.writer.proofs.Lines.{no_pairs, next_pair, all_pairs}

@@ -1,5 +1,5 @@
--- The invariant of `put_pairs`: the lines of the first i pairs are put from the place on, and the next goes past
--- them. The measure is how many pairs are left.
+-- The invariant of `put_pairs`: the lines of the first i pairs are put from the place on, and the next
+-- goes past them. The measure is how many pairs are left.
 use Rattle.std.proofs.Common.{◌*◌, ◌-◌, ◌≤◌, take}
 use Rattle.put.specs.Putting.{Put}
 use Rattle.form.specs.Lines.{entry_lines}

@@ -1,4 +1,5 @@
--- At the start no number is put; each turn puts the field of one more; and at the end i numbers are all of them.
+-- At the start no number is put; each turn puts the field of one more; and at the end i numbers are all of
+-- them.
 use Rattle.std.proofs.Common.{arith}
 use Rattle.put.proofs.Putting.{put_none, put_then}
 use Rattle.writer.proofs.Lines.{no_singles, next_single, all_singles}

@@ -1,5 +1,5 @@
--- A short output is refused before anything else and stays as it came; a fault of the job zeroes it; a job without
--- one is put at its front, and zeros behind.
+-- A short output is refused before anything else and stays as it came; a fault of the job zeroes it; a job
+-- without one is put at its front, and zeros behind.
 use Rattle.std.proofs.Common.{arith}
 use Rattle.hall.specs.Floor.{network_of}
 use Rattle.hall.specs.Job.{job_of}
