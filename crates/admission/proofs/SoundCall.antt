@@ -4,7 +4,7 @@
 --     walk_there                and a walk
 --     book_sound, not_back, not_beyond    its book is not damaged, and its tick is neither before the book's
 --                               clock nor above the limit
---     move_clear, none-stale    nothing of the network and the move holds, and nothing of 17
+--     move_clear, none_stale    nothing of the network and the move holds, and nothing of 17
 use mathlib.Core.Logic.{inl, inr}
 use mathlib.Core.List.{[], ◌∷◌, ◌++◌}
 use Prim.Native.Nat.{ℕ, ◌≤◌}

@@ -2,7 +2,7 @@
 -- is asked of the book, the clock value and the network passes again after an admission at the same clock
 -- value on the same network (`settled_then`). Assumes nothing.
 --     stops_later     the theorem
---     refused_by, stopped_by, all-by, stops-ride    how a trolley ended tells what the moves came to, and
+--     refused_by, stopped_by, all_by, stops_ride    how a trolley ended tells what the moves came to, and
 --                                                   back
 use mathlib.Core.Path.{◌≡◌, refl, ◌∙◌, ap}
 use mathlib.Core.Logic.{inl, inr}

@@ -2,7 +2,7 @@
 -- of the book. A day is a book that began empty, changed by nothing but admissions, on one network with the
 -- same closed nodes (specs/Day.antt); `Admission` is the promise of `book::admit`. Assumes nothing.
 --     admission_once       of any book: one answer, and one book that is left, for each input
---     accepted_exactly, refused-exactly-then    of any book: accepted exactly where no check holds, refused
+--     accepted_exactly, refused_exactly_then    of any book: accepted exactly where no check holds, refused
 --                          exactly with the first that does
 --     admission_bound      of any book, which has 64 slots: demand 3's bound, from now and from those held
 --     day_bound            so on a day
@@ -12,20 +12,20 @@
 --     day_paths            each of them has a shortest path
 --     day_travels          on each it comes to its goal its distance after its start, and is nowhere after
 --                          its last tick
---     day_never_16, day-never-17    with a dwell of at most 255 no admission is refused as damaged, and with
+--     day_never_16, day_never_17    with a dwell of at most 255 no admission is refused as damaged, and with
 --                          any none as stale
---     trolley_once, trolley-same    of any book: one end, one book that is left and one list of ticks for
+--     trolley_once, trolley_same    of any book: one end, one book that is left and one list of ticks for
 --                          each input of a trolley; `Ride` is the promise of `book::admit_all`
---     trolley_refused_exactly, trolley-stopped-exactly, trolley-all-exactly    of any book: when it ends how
---     trolley_empty, trolley-short, trolley-long    of any book: what a trolley without moves, one with too
+--     trolley_refused_exactly, trolley_stopped_exactly, trolley_all_exactly    of any book: when it ends how
+--     trolley_empty, trolley_short, trolley_long    of any book: what a trolley without moves, one with too
 --                          short a list and one with too many moves come to
 --     trolley_later        of any book: a move behind the first is refused for itself, or with 15
 --     trolley_day          a day, then a trolley however it ended, is a day
 --     trolley_carrier      the carrier of each move that it admitted, with the tick at its place in the list
---     trolley_unforgotten, trolley-same-ticks, trolley-paths, trolley-apart, trolley-travels    so all that
+--     trolley_unforgotten, trolley_same_ticks, trolley_paths, trolley_apart, trolley_travels    so all that
 --                          is owed to a day is owed to its carriers and to those before
 --     trolley_bound        each move that it admits starts within the bound
---     trolley_never_16, trolley-never-17    with a dwell of at most 255 no move of it is stopped as damaged,
+--     trolley_never_16, trolley_never_17    with a dwell of at most 255 no move of it is stopped as damaged,
 --                          and with any none as stale
 --     kept_is_day          any number of admissions and trolleys on an empty book are a day
 use mathlib.Core.Path.{◌≡◌, refl, ap, subst}
