@@ -1,3 +1,2 @@
--- The row of a book that is lent (BookRow), and that one outcome fits the promise (Unique).
-pub mod BookRow
+-- That one outcome fits the promise of each function over a book that is lent.
 pub mod Unique
