@@ -11,15 +11,17 @@
 --     sieved_first, sieved_none                after the last slot the sieve has the first, or there is none
 use mathlib.Core.Path.{◌≡◌, refl, sym, ◌∙◌, subst}
 use mathlib.Core.Logic.{◌↔◌}
-use mathlib.Core.Bool.{Bool, false}
+use mathlib.Core.Bool.{Bool, true, false}
 use mathlib.Core.List.{List, [], ◌∷◌}
 use Prim.Native.Nat.{ℕ, ◌+◌, ◌≤◌, ◌<◌}
+use native.Mathlib.Nat.{not-suc-le-zero}
 use native.Mathlib.Decide.{dec_lt}
 use native.Mathlib.Omega.{arith}
 use lib.ListN.{length}
 use borrow.Author.Count.{below_more}
 use Rattle.hall.specs.Limits.{node_limit, distance_limit}
 use Rattle.hall.specs.Floor.{Dist, DistanceIs, no_walk, distance, Network, floor}
+use Rattle.hall.specs.Rule.{Answers}
 use Rattle.hall.specs.Stages.{here, FirstIn, None}
 use Rattle.hall.proofs.Answers.{true_not_false}
 use Rattle.hall.proofs.Walks.{begins_on_node, ends_on_node, dist_unique}
@@ -30,11 +32,16 @@ use Rattle.slots.specs.Record.{slot_count, free, slot_at, Standing, StandsAt}
 use Rattle.slots.specs.Refusals.{BadSlot, SomeBadSlot, far_distance}
 use Rattle.admission.specs.Refusals.{Stale, start_shut, goal_shut, other_distance}
 use Rattle.admission.specs.Questions.{stale_checks, stale_slots}
-use Rattle.admission.specs.Steps.{StaleAt, StandsBefore, OffRow, no_row, no_goal}
+use Rattle.admission.specs.Steps.{StaleAt, StandsFrom, StandsBefore, OffRow, no_row, no_goal}
 use Rattle.admission.specs.Steps.{other_number, StaleBy, LowestBy, Sieved}
 use Rattle.slots.proofs.Slots.{is_free_dec}
 
 -- ---- one slot
+
+-- whether a slot with this start stands is whether it stands
+pub stands_there : (w t start : ℕ) (c : Slot) (r : Bool) → c.start ≡ start → Answers r (StandsAt w t c) → Answers r (StandsFrom w t start c)
+stands_there w t start c true e h = record { stands = h; from_there = e }
+stands_there w t start c false e k = λ h. k h.stands
 
 module _ (N : Network) (c : Slot) where
   pub goal_off : N.nodes ≤ c.goal → ¬ Dist (floor N) c.start c.goal c.distance
@@ -100,6 +107,9 @@ module _ (N : Network) (w t : ℕ) (slots : List Slot) (size : length slots ≡ 
   stale_back i (other_distance s k) = record { stands = record { taken = s.held.taken; on_time = s.on_time }; other = k }
 
   -- ---- the sieve
+
+  pub sieve_begins : Sieved N w t slots 0 slot_count
+  sieve_begins = record { most = omega arith; stale = λ l. absurd (let x : ⊥ = omega arith in x); clear = λ j p l. absurd (not-suc-le-zero l) }
 
   -- the sieve is through with every slot, and has the first, or there is none
   module _ {i lowest : ℕ} (s : Sieved N w t slots i lowest) (through : lowest ≤ i) where

@@ -1,2 +1,3 @@
--- That one outcome fits the promise of each function over a book that is lent.
+-- The row of a book that is lent (BookRow), and that one outcome fits the promise (Unique).
+pub mod BookRow
 pub mod Unique

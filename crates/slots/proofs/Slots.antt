@@ -10,6 +10,7 @@ use mathlib.Core.List.{List, map}
 use Prim.Native.Nat.{ℕ, ◌+◌, ◌≤◌, ◌<◌}
 use native.Mathlib.Decide.{ℕ_discrete, dec_lt}
 use native.Mathlib.Omega.{arith}
+use lib.Dec.{ltb, eqb, T}
 use lib.ListN.{length, get_or, set, length-set, length-map, get_or-map}
 use lib.Seq.{get_or-set_same, get_or-set_other}
 use borrow.Author.Tests.{lt-ltb, le-ltb, ne_eqb}
@@ -18,6 +19,7 @@ use Rattle.hall.proofs.Lowest.{dec_and}
 use Rattle.slots.specs.declared.Slot.{Slot}
 use Rattle.slots.specs.Record.{slot_count, free, slot_is_free, slot_at, Held, Standing, last_tick}
 use Rattle.slots.specs.Record.{forgotten, forgetting, LowestFree}
+use Rattle.slots.specs.Refusals.{BadSlot, BadHeld, SomeBadSlot}
 
 -- ---- free or not
 
@@ -72,6 +74,15 @@ taken_by c e h = test_taken c (sym e ∙ h)
 -- a carrier with a distance of 1 at least is no free slot
 pub carrier_taken : (c : Slot) → 1 ≤ c.distance → c ≢ free
 carrier_taken c h e = let z : c.distance ≡ 0 = ap (λ (y : Slot). y.distance) e in absurd (let x : ⊥ = omega arith in x)
+
+-- ---- a bad carrier, somewhere or nowhere
+
+module _ (slots : List Slot) (size : length slots ≡ slot_count) where
+  pub bad_somewhere : (i : ℕ) → i < slot_count → BadHeld (slot_at slots i) → SomeBadSlot slots
+  bad_somewhere i l h = record { place = i; held = record { inside = omega arith; taken = h.0 }; bad = h.1 }
+
+  pub bad_nowhere : ((i : ℕ) → i < slot_count → ¬ BadHeld (slot_at slots i)) → ¬ SomeBadSlot slots
+  bad_nowhere none b = none b.place (omega (arith, b.held.inside)) (b.held.taken, b.bad)
 
 -- ---- forgetting
 
