@@ -161,7 +161,7 @@ module _ (N : Network) (b : Book) (now s g : ℕ) (size : length b.slots ≡ slo
         }
 
     -- a free slot forbids nothing
-    free_permits : (c : Slot) → c ≡ free → (x t : ℕ) → Permitted w (pair c) (pos x -ℤ pos t)
+    pub free_permits : (c : Slot) → c ≡ free → (x t : ℕ) → Permitted w (pair c) (pos x -ℤ pos t)
     unfolding pair_for
     free_permits c e x t f = f.joined (ap (λ y. starts_for y (get_or outward c.start 0)) (free_test c e))
 

@@ -1,10 +1,11 @@
--- The questions of an admission as lists of stages, in the order in which their checks are made (rule 8.31).
--- The place is the slot for 17, 0 for 15, and for the others that of the crates below.
+-- The questions to a book, with a network and a move, as lists of stages, in the order in which their checks
+-- are made (rules 8.31 and 8.34). The place is the slot for 17, 0 for 15, and for the others that of the
+-- crates below.
 --     stale_checks      17, of the slot at a place
 --     stale_slots       17, slot by slot
 --     full_book         15
---     call_question     a book, a clock value and a move on a network: 16, 14, those of the network and the
---                      move, 17
+--     call_question     a book, a clock value or a tick, and a move on a network: 16, 14, those of the network
+--                      and the move, 17. It is the whole question whether the move may go at the tick
 --     admission_question   the same, and 15 last
 use Rattle.std.specs.Prelude.{List, [], ◌∷◌, ◌++◌, ℕ}
 use Rattle.hall.specs.declared.Fault.TheVariants.{NoSlot, StaleSlot}

@@ -1,4 +1,4 @@
--- What the functions of an admission and of a trolley promise one another. No public question cites them.
+-- What the functions of this crate promise one another. No public question cites them.
 --     StaleAt          17 of one slot: it holds a carrier whose last tick is t or later, and whose distance
 --                      on the network is not the one held
 --     StandsFrom       a slot with this start holds a carrier whose last tick is t or later
@@ -15,6 +15,8 @@
 --     pair_for          the pair of a slot and a move, by the rows from the move's start and from its goal
 --     OnRows           the ends of every slot have a place in a row
 --     TickFor          the smallest tick from a given one up that the pairs of all slots permit
+--     Blocking         the pair of a slot forbids the tick
+--     LowestBlocking   the number of the lowest slot of which that holds, or 64 where there is none
 --     Settled          what is asked of a book, a clock value and a network passes, whatever the move: 16,
 --                      14, the network's checks and 17
 --     Settles          so it does for the next call, at the same clock value on the same network, where an
@@ -24,12 +26,12 @@
 --     Called           the checks of a call, and the rows that they leave where none holds
 --     Riding           the moves of a trolley: the start ticks of those admitted stand in front of the list,
 --                      and the rest of it is as it came
-use Rattle.std.specs.Prelude.{◌≡◌, ◌≢◌, Bool, true, false, List, [], ◌∷◌, ◌++◌, ℕ, ◌≤◌, ◌<◌, length, get_or, drop}
+use Rattle.std.specs.Prelude.{◌≡◌, ◌≢◌, Bool, true, false, List, [], ◌∷◌, ◌++◌, ℕ, ◌≤◌, ◌<◌, length, get_or, drop, pos, ◌-ℤ◌}
 use Rattle.hall.specs.declared.Checked.{Checked}
 use Rattle.hall.specs.declared.Checked.TheVariants.{Sound}
 use Rattle.hall.specs.Limits.{node_limit, no_walk_mark}
 use Rattle.hall.specs.Floor.{Dist, DistanceIs, Network, floor}
-use Rattle.hall.specs.Rule.{Pair, pair6}
+use Rattle.hall.specs.Rule.{Pair, pair6, Forbidden}
 use Rattle.hall.specs.Ticks.{SmallestFrom, PermittedBy}
 use Rattle.hall.specs.Stages.{None}
 use Rattle.hall.specs.Said.{Said, accepted, refused, Judged}
@@ -102,6 +104,17 @@ abbrev pub TickFor : (outward inward : List ℕ) (own w from : ℕ) → List Slo
 TickFor outward inward own w from slots =
     SmallestFrom from
     (PermittedBy w slot_count (λ i. pair_for outward inward own (slot_at slots i)) (λ i. (slot_at slots i).tick))
+
+-- ---- may it go
+
+abbrev pub Blocking : (outward inward : List ℕ) (own w t : ℕ) → List Slot → ℕ → Type 0
+Blocking outward inward own w t slots i =
+    Forbidden w (pair_for outward inward own (slot_at slots i)) (pos t -ℤ pos (slot_at slots i).tick)
+
+pub record LowestBlocking (outward inward : List ℕ) (own w t : ℕ) (slots : List Slot) (r : ℕ) : Type 0 where
+  pub most : r ≤ slot_count
+  pub blocking : r < slot_count → Blocking outward inward own w t slots r
+  pub none_before : (j : ℕ) → j < r → ¬ Blocking outward inward own w t slots j
 
 -- ---- the checks
 

@@ -69,7 +69,7 @@ fn check_reached(
 
 // The checks of a call with a book, a clock value and a move: 16, 14, those of the network and the move, 17.
 // Where none holds, the rows have the distances from the start and from the goal.
-fn check_call(
+pub(crate) fn check_call(
     book: Book,
     t: u32,
     nodes: usize,

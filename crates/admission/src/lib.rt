@@ -9,6 +9,7 @@
 // copies of the book, of 776 bytes each.
 #![tactic(auto)]
 
+pub mod ask;
 mod checks;
 mod stale;
 mod tick;

@@ -13,7 +13,7 @@ use rule::{HELD, first_tick, hold};
 use slots::{Book, Slot, is_free};
 
 // The distance between the starts, or the mark for "no walk" at a free slot.
-fn starts_for(slot: Slot, between: u16) -> u16
+pub(crate) fn starts_for(slot: Slot, between: u16) -> u16
     ensures { result ≡ starts_for (slot_is_free slot) between }
 {
     if is_free(slot) {
