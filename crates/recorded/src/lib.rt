@@ -1,7 +1,7 @@
 // A job with its carriers' records: what the questions of crate `jobs`, which lend them, promise (specs/),
 // and what these questions decide, as functions on numbers: what is answered, and how many records are
-// written. Every input is taken. A function over lent records is proved by hand, statement by statement; all
-// else is here, so that it is proved, and tried with mistakes, without those.
+// written. Every input is taken. The functions over lent records only carry numbers; all else is here, so
+// that it is proved, and tried with mistakes, without those.
 //
 // The moves of a job come loaded from its records into a list, with how many records there are beside it. The
 // part of the list that is handed on is theirs: its length tells `planner`, `asks` and `writer` how many
