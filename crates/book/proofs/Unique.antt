@@ -1,6 +1,6 @@
 -- One answer, one book left and, of a trolley, one list of ticks fit the promises of the functions over a
--- book that is lent: they are the promises of the steps by value (`answer_unique`, `ended_unique` of crate
--- `admission`). Assumes nothing.
+-- book that is lent: they are the promises of the steps by value (`answer_unique`, `ended_unique`,
+-- `asked_unique` of crate `admission`). Assumes nothing.
 use mathlib.Core.Path.{◌≡◌}
 use mathlib.Core.List.{List}
 use Prim.Native.Nat.{ℕ}
@@ -10,6 +10,9 @@ use Rattle.admission.specs.declared.Answer.{Answer}
 use Rattle.admission.specs.declared.trolley.Ended.{Ended}
 use Rattle.admission.specs.Admission.{Admission, said_answer}
 use Rattle.admission.specs.Trolley.{said_ended, Ride}
+use Rattle.admission.specs.declared.ask.Asked.{Asked}
+use Rattle.admission.specs.Asking.{Asking, said_asked}
+use Rattle.admission.proofs.Asking.{asked_unique}
 use Rattle.admission.proofs.Unique.{answer_unique}
 use Rattle.admission.proofs.RideUnique.{ended_unique}
 
@@ -23,3 +26,7 @@ pub admit_all_unique : (N : Network) (b : Book) (now : ℕ) (moves ticks : List 
     → Ride N b now moves ticks (said_ended r) left ticks' → Ride N b now moves ticks (said_ended r') other others
     → (r ≡ r') × (left ≡ other) × (ticks' ≡ others)
 admit_all_unique = ended_unique
+
+pub may_start_unique : (N : Network) {b : Book} {t s g : ℕ} (r r' : Asked)
+    → Asking N b t s g (said_asked r) → Asking N b t s g (said_asked r') → r ≡ r'
+may_start_unique N = asked_unique N
