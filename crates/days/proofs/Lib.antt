@@ -4,4 +4,5 @@ pub mod Apart
 pub mod Never
 pub mod Trolleys
 pub mod Later
+pub mod Asked
 pub mod Theorems

@@ -1,6 +1,7 @@
--- What is owed to a day of the floor book, as theorems of a few lines each (rules 13.9 to 13.19): the summit
--- of the book. A day is a book that began empty, changed by nothing but admissions, on one network with the
--- same closed nodes (specs/Day.antt); `Admission` is the promise of `book::admit`. Assumes nothing.
+-- What is owed to a day of the floor book, as theorems of a few lines each (rules 13.9 to 13.19 and 13.25 to
+-- 13.29): the summit of the book. A day is a book that began empty, changed by nothing but admissions, on one
+-- network with the same closed nodes (specs/Day.antt); `Admission` is the promise of `book::admit`. Assumes
+-- nothing.
 --     admission_once       of any book: one answer, and one book that is left, for each input
 --     accepted_exactly, refused_exactly_then    of any book: accepted exactly where no check holds, refused
 --                          exactly with the first that does
@@ -28,38 +29,63 @@
 --     trolley_never_16, trolley_never_17    with a dwell of at most 255 no move of it is stopped as damaged,
 --                          and with any none as stale
 --     kept_is_day          any number of admissions and trolleys on an empty book are a day
+--     asking_once          of any book: one answer to the question whether a move may go at a tick; `Asking`
+--                          is the promise of `book::may_start`
+--     asked_exactly, asked_refused_exactly    of any book: it is answered exactly where no check holds, and
+--                          refused exactly with the first that does
+--     yes_by_slots         of any book, where no check holds: yes exactly if no carrier held whose last tick
+--                          is that tick or later forbids it
+--     barred_by_slot       of any book: the slot answered forbids it, and none before does
+--     asked_path           of any book, where no check holds: the move has a shortest path
+--     yes_exactly          of any book, which has 64 slots: yes exactly if an admission with that tick as now
+--                          gets that tick, where it is not refused with 15
+--     first_yes, no_yes    of any book, which has 64 slots: the tick of an accepted admission is the first
+--                          from now up at which the answer is yes, and if it is above 4,000,000,000 there is
+--                          none
+--     past_permits         on a day whoever is past at a tick permits it by the rule, too
+--     yes_apart            on a day a carrier that starts with a yes meets and crosses nobody admitted so
+--                          far, whatever shortest paths they take
+--     asked_never_16, asked_never_17    on a day with a dwell of at most 255 the question is never refused as
+--                          damaged, and with any never as stale
 use mathlib.Core.Path.{◌≡◌, refl, ap, subst}
 use mathlib.Core.Logic.{◌↔◌, ◌≢◌}
-use mathlib.Core.List.{List, ◌++◌}
+use mathlib.Core.List.{List, [], ◌∷◌, ◌++◌}
 use Prim.Native.Nat.{ℕ, ◌-◌, ◌≤◌, ◌<◌}
 use native.Mathlib.Omega.{arith}
 use lib.ListN.{length}
 use Rattle.hall.specs.Limits.{carrier_limit, dwell_limit}
 use Rattle.hall.specs.Floor.{Network, floor}
-use Rattle.hall.specs.Path.{ShortestPath}
+use Rattle.hall.specs.Path.{ShortestPath, Meet, Cross}
 use Rattle.hall.specs.Safety.{Apart}
 use Rattle.hall.specs.Job.{move_count}
 use Rattle.hall.specs.Left.{zeroed}
+use Rattle.hall.specs.Ticks.{SmallestFrom}
 use Rattle.hall.specs.Stages.{First, None}
 use Rattle.hall.specs.Said.{Said, accepted, refused}
 use Rattle.hall.proofs.Stages.{refused_exactly, none_excludes}
+use Rattle.hall.proofs.Compose.{first_before}
 use Rattle.hall.proofs.Places.{asked_here, asked_later}
 use Rattle.slots.specs.declared.Slot.{Slot}
 use Rattle.slots.specs.declared.Book.{Book}
-use Rattle.slots.specs.Record.{slot_count, slot_at, forgetting}
+use Rattle.slots.specs.Record.{slot_count, slot_at, last_tick, forgetting}
+use Rattle.slots.specs.Refusals.{clock_limit}
 use Rattle.admission.specs.declared.Entry.{Entry}
 use Rattle.admission.specs.declared.Answer.{Answer}
 use Rattle.admission.specs.declared.trolley.Ended.{Ended}
-use Rattle.admission.specs.Questions.{admission_question}
-use Rattle.admission.specs.Admission.{Admission, said_answer}
+use Rattle.admission.specs.declared.ask.Asked.{Asked}
+use Rattle.admission.specs.Questions.{full_book, call_question, admission_question}
+use Rattle.admission.specs.Admission.{PermitsOne, Admission, said_answer}
 use Rattle.admission.specs.Trolley.{Ending, all, stopped, refused_whole, said_ended, trolley_counts, to_the_end}
 use Rattle.admission.specs.Trolley.{Ride, not_begun, begun}
+use Rattle.admission.specs.Asking.{ForbiddenBy, Verdict, may, barred, Judgement, free_to_go, lowest}
+use Rattle.admission.specs.Asking.{Asking, said_asked}
+use Rattle.admission.proofs.Asking.{verdict_once, asked_unique}
 use Rattle.admission.proofs.Unique.{answer_unique}
 use Rattle.admission.proofs.RideUnique.{ride_unique, ended_unique}
 use Rattle.admission.proofs.Riding.{empty_rides}
 use Rattle.admission.proofs.Took.{took}
 use Rattle.admission.proofs.Pairs.{tick_bound, alone_now}
-use Rattle.days.specs.Day.{Call, Day, UnforgottenDay, Travels, Bounded}
+use Rattle.days.specs.Day.{Call, Day, UnforgottenDay, Gets, Travels, Bounded}
 use Rattle.days.proofs.Days.{remembers, unforgotten_day, same_ticks}
 use Rattle.days.specs.Trolleys.{admitted_by, MoveOrRoom, trolley_calls, OfMove, RodeOn, Kept}
 use Rattle.days.specs.Trolleys.{StopsAt, AdmitsAll, BoundedAt}
@@ -67,6 +93,7 @@ use Rattle.days.proofs.Apart as apart
 use Rattle.days.proofs.Trolleys as trolleys
 use Rattle.days.proofs.Later.{refused_by, stopped_by, all_by, stops_ride, stops_later}
 use Rattle.days.proofs.Never.{no_16, no_17}
+use Rattle.days.proofs.Asked as asked
 
 -- ---- any book
 
@@ -247,3 +274,72 @@ module _ (N : Network) (w : ℕ) {calls : List Call} {ever : List Slot} {b : Boo
 pub kept_is_day : {N : Network} {w : ℕ} {b : Book} → Kept N w b →
     (calls : List Call) × (ever : List Slot) × Day N w calls ever b
 kept_is_day = trolleys.kept_day
+
+-- ---- may it go at this tick
+
+module _ (N : Network) (b : Book) (t s g : ℕ) where
+  pub asking_once : (r r' : Asked) → Asking N b t s g (said_asked r) → Asking N b t s g (said_asked r') → r ≡ r'
+  asking_once = asked_unique N
+
+  pub asked_exactly : (said : Said Verdict) → Asking N b t s g said →
+      ((v : Verdict) × (said ≡ accepted v)) ↔ None (call_question N b t s g)
+  asked_exactly (accepted v) a = ((λ h. a.fits), λ none. (v, refl))
+  asked_exactly (refused n p) a =
+      ((λ h. absurd (asked.not_answered h.1)), λ none. absurd (none_excludes a.fits none))
+
+  pub asked_refused_exactly : (said : Said Verdict) → Asking N b t s g said →
+      (n p : ℕ) → (said ≡ refused n p) ↔ First (call_question N b t s g) n p
+  asked_refused_exactly said a = refused_exactly said a.fits
+
+  pub yes_by_slots : (v : Verdict) → Asking N b t s g (accepted v) →
+      (v ≡ may) ↔ ((i : ℕ) → ¬ ForbiddenBy N b.dwell b.slots t s g i)
+  yes_by_slots v a = (
+    (λ e. none_bars (subst (Judgement N b.dwell b.slots t s g) e a.right)),
+    λ none. verdict_once a.right (free_to_go none),
+  )
+    where
+      none_bars : Judgement N b.dwell b.slots t s g may →
+          (i : ℕ) → ¬ ForbiddenBy N b.dwell b.slots t s g i
+      none_bars (free_to_go none) = none
+
+  pub barred_by_slot : (i : ℕ) → Asking N b t s g (accepted (barred i)) →
+      ForbiddenBy N b.dwell b.slots t s g i
+      × ((j : ℕ) → j < i → ¬ ForbiddenBy N b.dwell b.slots t s g j)
+  barred_by_slot i a = bars a.right
+    where
+      bars : Judgement N b.dwell b.slots t s g (barred i) → ForbiddenBy N b.dwell b.slots t s g i
+          × ((j : ℕ) → j < i → ¬ ForbiddenBy N b.dwell b.slots t s g j)
+      bars (lowest f first) = (f, first)
+
+  pub asked_path : None (call_question N b t s g) → (l : List ℕ) × ShortestPath (floor N) s g l
+  asked_path = asked.move_path N
+
+  pub yes_exactly : length b.slots ≡ slot_count → {left : Book} (said : Said Entry) →
+      Admission N b t s g said left → said ≢ refused 15 0 → Asking N b t s g (accepted may) ↔ Gets t said
+  yes_exactly size = asked.yes_exactly N size
+
+module _ (N : Network) {b left : Book} {now s g : ℕ} {e : Entry} (size : length b.slots ≡ slot_count)
+    (a : Admission N b now s g (accepted e) left) where
+  pub first_yes : e.tick ≤ clock_limit → SmallestFrom now (λ y. Asking N b y s g (accepted may)) e.tick
+  first_yes = asked.first_yes N size a
+
+  pub no_yes : clock_limit < e.tick → (y : ℕ) → now ≤ y → ¬ Asking N b y s g (accepted may)
+  no_yes = asked.no_yes N size a
+
+module _ (N : Network) (w : ℕ) {calls : List Call} {ever : List Slot} {b : Book} (day : Day N w calls ever b) where
+  pub past_permits : (p : ℕ) → p < length ever → (s g t : ℕ) → last_tick w (slot_at ever p) < t →
+      PermitsOne N w (slot_at ever p) s g t
+  past_permits = asked.past_permits N w day
+
+module _ (N : Network) (w : ℕ) {calls : List Call} {ever : List Slot} {b : Book} (day : Day N w calls ever b)
+    {t s g : ℕ} where
+  pub yes_apart : Asking N b t s g (accepted may) → (p : ℕ) → p < length ever → {path own : List ℕ} →
+      ShortestPath (floor N) (slot_at ever p).start (slot_at ever p).goal path → ShortestPath (floor N) s g own →
+      (¬ Meet w path (slot_at ever p).tick own t) × (¬ Cross w path (slot_at ever p).tick own t)
+  yes_apart = asked.yes_apart N w day
+
+  pub asked_never_16 : w ≤ dwell_limit → (p : ℕ) → ¬ First (call_question N b t s g) 16 p
+  asked_never_16 few p f = day_never_16 N w day few t s g p (first_before (full_book b t ∷ []) f)
+
+  pub asked_never_17 : (p : ℕ) → ¬ First (call_question N b t s g) 17 p
+  asked_never_17 p f = day_never_17 N w day t s g p (first_before (full_book b t ∷ []) f)

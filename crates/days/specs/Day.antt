@@ -1,5 +1,5 @@
--- A day of admissions (rules 13.9 to 13.13): an empty book and the admissions made to it since, on one network
--- with the same closed nodes; nothing else has changed it. Every list has the latest first.
+-- A day of admissions (rules 13.9 to 13.13 and 13.27): an empty book and the admissions made to it since, on
+-- one network with the same closed nodes; nothing else has changed it. Every list has the latest first.
 --     Call            a call: the clock value now and the move
 --     Day N w         the calls that were accepted, the carriers that they admitted, and the book that is
 --                     left, where the empty book was made with the dwell w. A day may have refused calls:
@@ -12,6 +12,7 @@
 --     Travels         what demand 3 says of one carrier on one of its shortest paths: it stands at its goal
 --                     from its goal tick, its distance after its start tick, to its last tick, and at no
 --                     other; it is on the floor from its start tick to its last tick and absent otherwise
+--     Gets t          an admission is accepted, with the start tick t
 --     NoneLater w t   no carrier held has a last tick later than t. The latest last tick held is such a tick,
 --                     and the least of them
 --     Bounded         demand 3's bound, with those held after forgetting: no start later than now and one
@@ -20,7 +21,7 @@ use Rattle.std.specs.Prelude.{◌≡◌, List, [], ◌∷◌, ℕ, ◌+◌, ◌�
 use Rattle.hall.specs.Floor.{Dist, Network, floor}
 use Rattle.hall.specs.Path.{At}
 use Rattle.hall.specs.Ticks.{SmallestFrom}
-use Rattle.hall.specs.Said.{accepted, refused}
+use Rattle.hall.specs.Said.{Said, accepted, refused}
 use Rattle.slots.specs.declared.Slot.{Slot}
 use Rattle.slots.specs.declared.Book.{Book}
 use Rattle.slots.specs.Record.{slot_at, Held, goal_tick, last_tick, empty_book}
@@ -56,6 +57,10 @@ pub data UnforgottenDay (N : Network) (w : ℕ) : List Call → List Slot → Ty
       → SmallestFrom call.now (PermittedEver N w ever call.start call.goal) x
       → Dist (floor N) call.start call.goal d
       → UnforgottenDay N w (call ∷ calls) (carrier_of call.start call.goal d x ∷ ever)
+
+abbrev pub Gets : ℕ → Said Entry → Type 0
+Gets t (accepted e) = e.tick ≡ t
+Gets t (refused n p) = ⊥
 
 -- ---- demand 3
 
