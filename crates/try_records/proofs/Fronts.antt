@@ -6,10 +6,10 @@
 --                      later and what is behind; …], for a new lifetime ν
 --     unlends_front    [ν's token; what comes back later and what is behind; what the callee says of the
 --                      last list zs; …] → [the elements, with zs for the first n; …], and they are as many
---     shares_front, unshares-front     the same for a `&ν [T]`: the list comes back as it was
+--     shares_front, unshares_front     the same for a `&ν [T]`, T Copy: the list comes back as it was
 -- and for the array of 80 records that every walk of this crate is passed:
 --     Records          its row
---     records_tells, records-typed, records-makes     the laws of it that a parameter, a copy and a call ask
+--     records_tells, records_typed, records_makes     the laws of it that a parameter, a copy and a call ask
 --     room_within, front_fits     at most 80 of them have room, and are there
 -- Assumes `Logic`.
 use mathlib.Core.Path.{◌≡◌, refl, sym}
@@ -18,7 +18,7 @@ use native.Mathlib.Omega.{arith}
 use mathlib.Core.List.{List, [], ◌∷◌, ◌++◌}
 use lib.ListN.{length, take, drop as behind, take-append-drop}
 use seplogic.Ra.Ura.{Ura}
-use seplogic.Ra.TreeShare.{full_share}
+use base.Fraction.{full_share}
 use mir.Syntax.{erased}
 use mir.Val.{Val}
 use base.Fml.{GName, Fml, fsep, feq, flft, flent}
@@ -35,7 +35,8 @@ use denote.Struct.Laws as LL
 use borrow.Table.Elements.{at, same_len, cut_app, join_app}
 use lib.Seq.{length-take-le}
 use borrow.Rule.Array.Rows.{parts_f}
-use Rattle.hand.proofs.Walk.{ref}
+use denote.Copied.{Copied}
+use Rattle.hand.proofs.Walk.{ref, look_ref}
 use Rattle.records.specs.declared.Record.{Record}
 use Rattle.records.specs.contracts.Record as T
 use Rattle.records.proofs.Record.TheLaws as T'
@@ -65,11 +66,11 @@ module _ {M : Type 1} {𝓤 : Ura M} {𝓛 : Logic 𝓤} {K : Type 0} {Γ : List
       rewrite t 1 (λ (m : ℕ). ‵ (cells (mem R) (behind n ys) b (at o (mem R).size m))) (sym e) refl $
       use2 𝓛 (‵ (cells (mem R) (zs ++ behind n ys) b o)) (join_app 𝓛 (mem R) zs (behind n ys) b o) $ k (same_len n ys zs e))
 
-  pub shares_front : K → Soaks G → (R : RattleType) (ys : List R.Denot) (b o n : ℕ) → n ≤ length ys → Room R n
-      → ((ν : ℕ) (δ : GName) → Seq K 𝓛 (‵ ((ShrSlice erased (ν ∷ []) R).own_val (ref b o δ (take n ys)) (slice_val (b, o) n ∷ [])) ∷ ‵ (flft (ν ∷ []) full_share) ∷ ‵ (fsep (flent (ν ∷ []) (parts_f R (take n ys) b o)) (Behind R ys b o n)) ∷ Γ) G)
+  pub shares_front : K → Soaks G → (R : RattleType) → Copied 𝓛 R → (ys : List R.Denot) (b o n : ℕ) → n ≤ length ys → Room R n
+      → ((ν : ℕ) → Seq K 𝓛 (‵ ((ShrSlice erased (ν ∷ []) R).own_val (look_ref b o (take n ys)) (slice_val (b, o) n ∷ [])) ∷ ‵ (flft (ν ∷ []) full_share) ∷ ‵ (fsep (flent (ν ∷ []) (parts_f R (take n ys) b o)) (Behind R ys b o n)) ∷ Γ) G)
       → Seq K 𝓛 (‵ (cells (mem R) ys b o) ∷ Γ) G
-  shares_front t z R ys b o n l g k =
-      cuts t R ys b o n $ shares_array t z R (take n ys) b o n (length-take-le n ys l) g (λ ν δ. move t (2 ∷ 3 ∷ []) $ fjoin t $ move t (1 ∷ 2 ∷ 0 ∷ []) $ k ν δ)
+  shares_front t z R c ys b o n l g k =
+      cuts t R ys b o n $ shares_array t z R c (take n ys) b o n (length-take-le n ys l) g (λ ν. move t (2 ∷ 3 ∷ []) $ fjoin t $ move t (1 ∷ 2 ∷ 0 ∷ []) $ k ν)
 
   pub unshares_front : K → Soaks G → (R : RattleType) {ν : ℕ} (ys : List R.Denot) (b o n : ℕ)
       → Step K 𝓛 (‵ (cells (mem R) ys b o) ∷ Γ) G (‵ (flft (ν ∷ []) full_share) ∷ ‵ (fsep (flent (ν ∷ []) (parts_f R (take n ys) b o)) (Behind R ys b o n)) ∷ Γ) G
