@@ -12,14 +12,11 @@ use native.Mathlib.Decide.{dec_lt}
 use native.Mathlib.Omega.{arith}
 use lib.ListN.{length, get_or}
 use lib.IntN.{pos, ◌-ℤ◌}
-use Rattle.hall.specs.declared.Refusal.{Refusal}
-use Rattle.hall.specs.Numbers.{number_of}
 use Rattle.hall.specs.Floor.{Network, floor}
 use Rattle.hall.specs.Rule.{Forbidden}
 use Rattle.hall.specs.Plan.{DistancesOf}
 use Rattle.hall.specs.Stages.{None}
 use Rattle.hall.specs.Said.{Said, accepted, refused}
-use Rattle.hall.proofs.Numbers.{number_one_fault}
 use Rattle.hall.proofs.Stages.{none_excludes, first_unique}
 use Rattle.slots.specs.declared.Slot.{Slot}
 use Rattle.slots.specs.declared.Book.{Book}
@@ -31,6 +28,7 @@ use Rattle.admission.specs.Questions.{call_question}
 use Rattle.admission.specs.Asking.{ForbiddenBy, Verdict, may, barred, Judgement, free_to_go, lowest, Asking, said_asked}
 use Rattle.admission.specs.Steps.{pair_for, RowsFrom, Blocking, LowestBlocking}
 use Rattle.admission.proofs.Admitting.{pair_once, true_pair, free_permits}
+use Rattle.admission.proofs.RideUnique.{refusal_once}
 
 module _ (N : Network) (b : Book) (t s g : ℕ) (size : length b.slots ≡ slot_count) (sound : None (call_question N b t s g)) (outward inward : List ℕ) (rows : RowsFrom N s g outward inward) where
   abbrev own : ℕ
@@ -96,10 +94,6 @@ asking_unique N (accepted v) (accepted u) a c = ap accepted (verdict_once a.righ
 asking_unique N (accepted v) (refused n p) a c = absurd (none_excludes c.fits a.fits)
 asking_unique N (refused n p) (accepted u) a c = absurd (none_excludes a.fits c.fits)
 asking_unique N (refused n p) (refused m q) a c = let e = first_unique a.fits c.fits in λ i. refused (e.0 i) (e.1 i)
-
--- a refusal is its number and its place
-refusal_once : (r t : Refusal) → number_of r.fault ≡ number_of t.fault → r.place ≡ t.place → r ≡ t
-refusal_once r t e f = let same = number_one_fault r.fault t.fault e in λ i. record { fault = same i; place = f i }
 
 -- the slot of a verdict, and how many it has
 abbrev bar : Verdict → ℕ

@@ -109,7 +109,8 @@ ending_place all = 0
 ending_place (stopped k n p) = p
 ending_place (refused_whole n p) = p
 
-refusal_once : (r t : Refusal) → number_of r.fault ≡ number_of t.fault → r.place ≡ t.place → r ≡ t
+-- a refusal is its number and its place
+pub refusal_once : (r t : Refusal) → number_of r.fault ≡ number_of t.fault → r.place ≡ t.place → r ≡ t
 refusal_once r t e f = let same = number_one_fault r.fault t.fault e in λ i. record { fault = same i; place = f i }
 
 other_kind : (e f : Ended) → said_ended e ≡ said_ended f → ¬ (kind (said_ended e) ≡ kind (said_ended f)) → e ≡ f
