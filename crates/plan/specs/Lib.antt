@@ -1,0 +1,2 @@
+-- What the program leaves on its output.
+pub mod Answered
