@@ -1,7 +1,7 @@
 -- Jobs on one network, with one dwell and more than 64 carriers, are refused alike, whatever moves they have
 -- (hall's `crowded_job_alike`), so each question of this crate has one answer for all of them. A caller that
 -- lends a longer list of records may therefore put the first 65 of them only. Assumes nothing.
---     crowded_house, crowded-list    what is answered of one such job may be answered of another
+--     crowded_house, crowded_list    what is answered of one such job may be answered of another
 use mathlib.Core.List.{List, [], ◌∷◌}
 use Prim.Native.Nat.{ℕ, ◌<◌}
 use lib.ListN.{length}

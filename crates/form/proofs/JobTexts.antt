@@ -11,7 +11,7 @@
 --     one_answer        every text is accepted or refused
 --     answer_unique     in one way
 --     job_read          the job of an accepted text, by the entries of its sections; lanes_counted,
---                       closed_counted, carriers-counted its counts (rule 7.13)
+--                       closed_counted, carriers_counted its counts (rule 7.13)
 --     job_reading        the answer to a text; `job_reading_exactly` it is what the text says
 --     written_read      a job that is written is read as what it was; `read_written` what is read is written
 --                       as the text was
@@ -19,7 +19,7 @@
 --     accepted_length   an accepted text has at most 47,110 bytes, and so at most 47,142: within_47142
 --                       (rule 7.6)
 --     front_job         the first 47,111 bytes or more of a text say what the text says (rule 7.7), and so do
---                       the first 47,143: first-47143
+--                       the first 47,143: first_47143
 use mathlib.Core.Path.{◌≡◌, refl, sym, ◌∙◌, ap, subst}
 use mathlib.Core.Logic.{◌↔◌}
 use mathlib.Core.List.{List, ◌∷◌}

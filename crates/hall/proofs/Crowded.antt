@@ -4,8 +4,8 @@
 -- more than 64 carriers each, are answered alike, whatever follows; and so are they with one stage before
 -- both, as 9 stands. A caller that lends a longer list of records may therefore put the first 65 of them
 -- only. Assumes nothing.
---     crowded, crowded-alike            of two questions that begin with the counts
---     crowded_job, crowded-job-alike    of two jobs on one network, and whatever is asked after their checks
+--     crowded, crowded_alike            of two questions that begin with the counts
+--     crowded_job, crowded_job_alike    of two jobs on one network, and whatever is asked after their checks
 --     ⇒-behind                          of two questions with a stage before both
 use mathlib.Core.Path.{refl}
 use mathlib.Core.List.{List, [], ◌∷◌, ◌++◌}

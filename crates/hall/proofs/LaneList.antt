@@ -2,7 +2,7 @@
 -- at i and i + 1, either way round. And a lane that begins before place i + 2 begins before i, or at i, and
 -- then its ends are those two numbers. So what is known of the lanes before i, and is found out about the two
 -- numbers at i in both directions, is known of the lanes before i + 2. Assumes nothing.
---     lane_at, lane-back-at    from the numbers at an even place to the lane that has them
+--     lane_at, lane_back_at    from the numbers at an even place to the lane that has them
 --     LaneBefore               a lane k that joins a and b: before place i, or at i, one way round or the
 --                              other
 --     lane_before              every lane that begins before i + 2 is one of these

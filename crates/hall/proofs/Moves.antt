@@ -4,7 +4,7 @@
 --     numbers_asked       the numbers of a stage's checks, in their order
 --     four_five_thirteen those of a move, and there is no fourth
 --     alone              the checks of the move at a place by itself, as a question with one move has them
---     clear_alone, refused-alone    it passes, and is refused, in the list as it does alone
+--     clear_alone, refused_alone    it passes, and is refused, in the list as it does alone
 use mathlib.Core.Path.{◌≡◌, refl}
 use mathlib.Core.Logic.{◌↔◌}
 use mathlib.Core.List.{List, [], ◌∷◌}

@@ -4,7 +4,7 @@
 -- plain rules is lost and nothing is added. Assumes nothing.
 --     forbidden_plain    the pair rule with dwell 0 is the plain one
 --     start_ticks_plain  so are the start ticks by it
---     at_plain, meet-plain, cross-plain    so are a carrier's place at a tick, meeting and crossing
+--     at_plain, meet_plain, cross_plain    so are a carrier's place at a tick, meeting and crossing
 --     demand3_plain      and demand 3
 use mathlib.Core.Path.{◌≡◌, refl}
 use mathlib.Core.Logic.{◌↔◌, inl}

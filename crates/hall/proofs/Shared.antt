@@ -6,8 +6,8 @@
 -- with one goal do meet there, whatever paths they take, and so do those with one start at one start tick, so
 -- two carriers that demand 3 keeps apart have other ticks. From one start the places before q have the ticks
 -- below q, each times w + 1, so that is the smallest that is left for q. Assumes nothing.
---     one_start_rule, one-goal-rule      what the pair rule forbids to them, exactly
---     one_start_meets, one-goal-meets    where start ticks are one, or goal ticks at most w apart, they meet
+--     one_start_rule, one_goal_rule      what the pair rule forbids to them, exactly
+--     one_start_meets, one_goal_meets    where start ticks are one, or goal ticks at most w apart, they meet
 --     two_safe       demand 3 of any two carriers of a plan, those that share an end included
 --     starts_apart   in a plan, start ticks from one start are more than w apart
 --     in_a_row       where all carriers have one start, each starts at w + 1 times its place

@@ -4,7 +4,7 @@
 --     same_lent           lent lists are the same if each is
 --     short_received      9 is answered
 --     checked_received    past 9, what the checks answer is answered
---     is_received, received-refuses    what an answer tells: the job is received, or its plan is refused
+--     is_received, received_refuses    what an answer tells: the job is received, or its plan is refused
 use mathlib.Core.Path.{◌≡◌, refl, sym, ◌∙◌, ap}
 use mathlib.Core.List.{[], ◌∷◌}
 use Prim.Native.Nat.{ℕ}

@@ -2,7 +2,7 @@
 -- are loaded. Where there are more, 65 are, which is more than 64 too, and an answer that any two such jobs
 -- share is an answer for the records' own moves. The part of the local list that is handed on is that of the
 -- loaded moves: no list has more numbers than it has. Assumes nothing.
---     part_length, part-is    the part that is handed on: its length, and that it is what is loaded
+--     part_length, part_is    the part that is handed on: its length, and that it is what is loaded
 --     loaded_as               what holds of the loaded moves holds of the records' moves, if it holds alike
 --                             of any moves of more than 64 carriers
 use mathlib.Core.Path.{◌≡◌, sym, ◌∙◌, ap, subst}

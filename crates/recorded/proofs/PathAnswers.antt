@@ -4,9 +4,9 @@
 -- sound what `house` leaves, and of all shortest paths it is the first when compared node by node. The laws
 -- are those of the crate path. Assumes nothing.
 --     house_sound                        what `house` leaves passes `judge`
---     sound_shortest, shortest-sound     a list is found sound exactly if it is a shortest path, in a job
+--     sound_shortest, shortest_sound     a list is found sound exactly if it is a shortest path, in a job
 --                                        without faults
---     house_shortest, house-least        the house path is a shortest path, and the first of them node by
+--     house_shortest, house_least        the house path is a shortest path, and the first of them node by
 --                                        node
 use mathlib.Core.Path.{◌≡◌}
 use mathlib.Core.List.{List, [], ◌∷◌}

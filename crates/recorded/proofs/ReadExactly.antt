@@ -2,7 +2,7 @@
 -- when there is that reason, and accepted exactly when the tables are long enough and the text writes a job,
 -- as that job, which the tables then hold. A text's lines count from 1, so that line 0 is told by a short
 -- table alone. Two outcomes are equal. Assumes nothing.
---     refused_exactly, accepted-exactly, nine-exactly    refused with a number at a line, accepted as a job,
+--     refused_exactly, accepted_exactly, nine_exactly    refused with a number at a line, accepted as a job,
 --                                                        9 at line 0: exactly when
 --     accepted_holds     what is accepted as a job leaves its numbers in the tables
 --     reading_unique       two outcomes say the same and leave the same

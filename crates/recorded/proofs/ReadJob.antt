@@ -3,7 +3,7 @@
 -- and the dwell is that of the job. So what is cut out of the tables by the counts is the job that was read,
 -- and the text is its written form; it has no fault of the listed checks, and planning it can give 8 only.
 -- Assumes nothing.
---     read-back          the job in the tables is the job that was read
+--     read_back          the job in the tables is the job that was read
 --     read_is_written    the text is the written form of the job in the tables
 use mathlib.Core.Path.{◌≡◌, refl, sym, ◌∙◌, ap, subst}
 use mathlib.Core.List.{List, [], ◌∷◌}

@@ -4,7 +4,7 @@
 -- decided by what came in; a refusal is the first fault, and decides what is left. A job is not both accepted
 -- and refused. What is left of a house path is one, whatever question it answers (path's `left_unique`).
 -- Lists that are only read are as they came. Assumes nothing.
---     read_job_unique, plan-unique, write-unique, house-unique, judge-unique    one theorem for each public
+--     read_job_unique, plan_unique, write_unique, house_unique, judge_unique    one theorem for each public
 --                                                                               function of crate `jobs`
 use mathlib.Core.Path.{◌≡◌, sym, ◌∙◌, ap}
 use mathlib.Core.Bool.{true}

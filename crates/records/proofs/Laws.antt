@@ -2,13 +2,13 @@
 -- what it writes to; storing keeps the number of records, decides each record below the count and keeps every
 -- other one. Storing times keeps all moves: the numbers of a job are the same before and after. Each law goes
 -- by induction over the lists, side by side. Assumes nothing.
---     moves_length, moves-count                   the moves of the records as a list of numbers: how long it
+--     moves_length, moves_count                   the moves of the records as a list of numbers: how long it
 --                                                 is, and of how many carriers
---     moves_start, moves-goal                     what stands where in it
---     moved_length, moved-is, moved_front         the numbers once the moves are loaded over them
---     timed_at, timed-past                        the records once the first n are timed: their number, each
+--     moves_start, moves_goal                     what stands where in it
+--     moved_length, moved_is, moved_front         the numbers once the moves are loaded over them
+--     timed_at, timed_past                        the records once the first n are timed: their number, each
 --                                                 below n, each from n on
---     timed_moves, timed-same                     storing times changes no move, and reads no time past the
+--     timed_moves, timed_same                     storing times changes no move, and reads no time past the
 --                                                 count
 --     placed_at, placed_past                      the records once the first n are placed
 --     placed_moves                                their moves, where all n records and moves are there

@@ -3,9 +3,9 @@
 -- that it began with, one more turn is one more store (two, of a move), and after as many turns as `min`
 -- allows the list is the whole one: by induction over the lists, side by side. Assumes nothing.
 --     load_to i                                   the moves once i records are loaded
---     load_length, timed-length, placed-length   no list changes its length
---     load_step, timed-step, placed-step         one more record
---     load_all, timed-all, placed-all            all that there are
+--     load_length, timed_length, placed_length   no list changes its length
+--     load_step, timed_step, placed_step         one more record
+--     load_all, timed_all, placed_all            all that there are
 use mathlib.Core.Path.{◌≡◌, refl, ap}
 use Prim.Native.Nat.{ℕ, zero, suc, ◌+◌, ◌*◌, ◌/◌, ◌<◌, min}
 use native.Mathlib.Nat.{not-suc-le-zero, zero-min, min-zero, suc-min-suc}

@@ -4,9 +4,9 @@
 -- (`example_written`, `dwell_written`); the jobs are in the case tables, which give their ticks and their
 -- costs. The distances are 4, 4 and 1: none is more, as there are walks of so many lanes, and none is less,
 -- as the goal ticks make up the cost. Assumes nothing.
---     five_lines, tip-lines        the five lines, and those with dwell 2
---     printed_job, printed-tip     the definitions give the lines of those ticks, distances and cost
---     page_answered, tip-answered  the answer to the text is these lines; `answer_text_unique`
+--     five_lines, tip_lines        the five lines, and those with dwell 2
+--     printed_job, printed_tip     the definitions give the lines of those ticks, distances and cost
+--     page_answered, tip_answered  the answer to the text is these lines; `answer_text_unique`
 --                      (OneAnswer.antt) says that there is no other
 --     printed_refusal  a line of refusal, which computes too
 use mathlib.Core.Path.{◌≡◌, refl, sym, ◌∙◌}

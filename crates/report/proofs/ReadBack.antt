@@ -7,7 +7,7 @@
 --     ReadBack          the text is the written form of that job, and its counts are within the limits
 --     job_back          counts that reading answers are those of a job that was read
 --     refusal_back      a refusal that reading answers is the text's
---     job_answers, refused-answers    so what is printed for them answers the text
+--     job_answers, refused_answers    so what is printed for them answers the text
 use mathlib.Core.Path.{◌≡◌, refl, sym, ◌∙◌, ap, subst}
 use mathlib.Core.Logic.{inl, inr}
 use mathlib.Core.List.{List}

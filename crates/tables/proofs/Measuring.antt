@@ -3,7 +3,7 @@
 -- the first of 8, and where none is marked nothing of 8 holds. Assumes nothing.
 --     moves_served                  a job without the faults that are asked before its order's entries is
 --                                   served with a table
---     fill_worked, fill-declined    what `fill` answers, where its answer is turned round
+--     fill_worked, fill_declined    what `fill` answers, where its answer is turned round
 --     filled_looked                 a filled table has its three blocks, and no more carriers than a job can
 --                                   have
 --     all_unmarked                  what is looked at and has nothing lost has no mark
@@ -11,8 +11,8 @@
 --     reached_walks                 where none is marked, nothing of 8 holds
 --     measured_owns                 where nothing of 8 holds, no own distance is the mark
 --     measured_small                so each is at most 1,023
---     is_lost, is-measured          the outcomes of measuring
---     says_all, says-lost           what its answer tells
+--     is_lost, is_measured          the outcomes of measuring
+--     says_all, says_lost           what its answer tells
 --     served_measured               what is served is not answered as unserved
 use mathlib.Core.Path.{◌≡◌, refl, ◌∙◌, ap}
 use mathlib.Core.Logic.{inl, inr, ◌≢◌}

@@ -4,9 +4,9 @@
 -- numbers. Assumes nothing.
 --     short_of, long_of     a number of two bytes, and one of two such numbers, each read from the rest of a
 --                           payload
---     take_cut, drop-cut    fronts and rests of a list
---     ShortsLoaded          how far a loop that loads numbers has come: shorts-none begins it, shorts-more
---                           takes it a number further and shorts-whole ends it
+--     take_cut, drop_cut    fronts and rests of a list
+--     ShortsLoaded          how far a loop that loads numbers has come: shorts_none begins it, shorts_more
+--                           takes it a number further and shorts_whole ends it
 --     shorts_front          the front of a list that numbers are loaded into
 use mathlib.Core.Path.{◌≡◌, refl, sym, ◌∙◌, ap}
 use mathlib.Core.List.{List, [], ◌∷◌, ◌++◌, append_assoc}

@@ -4,7 +4,7 @@
 --     made_length, made_at, made_all   the list of records that is made: its length, each of its records, and
 --                                      that it is the only such list
 --     tell_puts                        four numbers, each written to the list that the one before left
---     told_step, told-end              one record more is written; none is left
+--     told_step, told_end              one record more is written; none is left
 --     told_length                      the numbers are as many as they were
 use mathlib.Core.Path.{◌≡◌, refl, sym, ap, ◌∙◌}
 use mathlib.Core.List.{List, [], ◌∷◌}

@@ -2,7 +2,7 @@
 -- `Unique`), so the records that it leaves of those lent are one list, and with those behind, which came in,
 -- so is what is written of them. Assumes nothing.
 --     lending_unique     the numbers that are written are one list, where what the question leaves is
---     read_lent_unique, plan-lent-unique, house-lent-unique, judge-lent-unique, write-lent-unique
+--     read_lent_unique, plan_lent_unique, house_lent_unique, judge_lent_unique, write_lent_unique
 --                        one theorem for each public function: answers, tables and numbers
 use mathlib.Core.Path.{◌≡◌, sym, ap, ◌∙◌}
 use mathlib.Core.List.{List, ◌++◌}

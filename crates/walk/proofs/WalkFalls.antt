@@ -8,7 +8,7 @@
 --     only_fell_none      labels only fell where nothing changes
 --     only_fell_then      and where they only fell, and then again
 --     only_fell_lowered   and where one end of a lane lets the label of the other fall
---     lane_up, lane-down  a lane of the list from its first number to its second, and back
+--     lane_up, lane_down  a lane of the list from its first number to its second, and back
 --     only_fell_look      and at a look at a lane
 use mathlib.Core.Path.{◌≡◌, refl, ◌∙◌, ap}
 use mathlib.Core.Logic.{inl, inr, ◌≢◌}
