@@ -4,7 +4,7 @@
 #![tactic(auto)]
 
 mod booked;
-mod recorded;
+mod on_records;
 mod trolleys;
 
 use std::io;
@@ -17,8 +17,8 @@ fn answer_case<W: Write>(out: &mut W, kind: u8, s: &[u8]) -> io::Result<()> {
     match kind {
         b'B' => booked::admit(out, s, body(s)),
         b'T' => trolleys::admit_all(out, s, body(s)),
-        b'r' => recorded::read(out, s, body(s)),
-        b'p' | b'o' | b'j' | b'y' => recorded::ask(out, kind, s, body(s)),
+        b'r' => on_records::read(out, s, body(s)),
+        b'p' | b'o' | b'j' | b'y' => on_records::ask(out, kind, s, body(s)),
         _ => answer(out, kind, s),
     }
 }
