@@ -1,5 +1,5 @@
--- A book as a struct that is lent: its row, with the laws that the steps of crate `hand` ask of it. Every
--- walk over a book that is lent cites it. Assumes nothing.
+-- A book as a struct that is lent: its row, with the laws that the steps of crate `hand` ask of it. A
+-- proof by hand over a book that is lent would cite it; none is left. Assumes nothing.
 use Rattle.hand.proofs.Walk.{Elem, struct_of}
 use Rattle.slots.specs.contracts.Book as B
 use Rattle.slots.proofs.Book.TheLaws as B'

@@ -9,7 +9,8 @@
 --                      a new lifetime ν; n is the array's length
 --     unlends_array    [ν's token; what comes back later; what the callee says of the last list zs; …] → [the
 --                      elements zs; …]
---     shares_array, unshares_array     the same for a `&ν [T]`, T Copy: the list comes back as it was
+--     shares_array, unshares_array     the same for a `&ν [T]`, T that can be shared: the list comes back as it
+--                      was
 -- Assumes `Logic`.
 use mathlib.Core.Path.{◌≡◌, refl, sym, subst}
 use Prim.Native.Nat.{ℕ, zero, suc}
@@ -20,7 +21,7 @@ use base.Fraction.{full_share}
 use mir.Syntax.{erased, ty_array}
 use mir.Raw.{raw as raw_ty}
 use mir.Val.{Val}
-use base.Fml.{GName, fsep, feq, fat, flft, flent}
+use base.Fml.{Lft, GName, fsep, feq, fat, flft, flent}
 use types.Logic.{Logic}
 use types.Kit.{Goal, Soaks, Item, ‵, ◌⊛◌, some, later, Seq, Step, step, ◌$◌, move, drop, use1, use2, use3, split, pick, await, rewrite, fsplit, fjoin, fpick, fpack, feq_l, feq_i}
 use types.SemTy.{cells, Arr}
@@ -31,10 +32,10 @@ use denote.Shadow.{shadow}
 use denote.Laws.{Is, shows}
 use denote.Array.{Array, each, array_val, array_vals, Array-Makes, Array-Tells}
 use denote.ArrayMemory.{Single, Array-apart, Array-whole}
-use denote.Memory.{cell_raw, raw_all, lone, mem, shares, part_at, part_of}
+use denote.Memory.{cell_raw, raw_all, lone, mem, shares, part_at, part_of, shared_of}
 use denote.Slice.{slice_val, MutSlice, ShrSlice, Room, finally}
 use denote.Lend.{Held, lends_slice, lends_shr_slice, slice_back}
-use denote.Copied.{Copied}
+use denote.Shares.{SharesAsFrom}
 use denote.Index.{row, whole_in, whole_out}
 use denote.Steps.{only, owned, facts}
 use borrow.Rule.Array.Rows.{parts_f}
@@ -86,13 +87,13 @@ module _ {M : Type 1} {𝓤 : Ura M} {𝓛 : Logic 𝓤} {K : Type 0} {Γ : List
       lft_end t z $ move t (2 ∷ []) $ fsplit t $ move t (1 ∷ []) $ feq_l t (λ e. move t (1 ∷ 2 ∷ 0 ∷ []) $
       use3 𝓛 (later (‵ ((Arr (mem R) (length ys)).own_at zs b o))) (slice_back 𝓛 R (ν ∷ []) δ zs (length ys) b o) $ await t z $ fsplit t $ drop t $ k e)
 
-  pub shares_array : K → Soaks G → (R : RattleType) → Copied 𝓛 R → (ys : List R.Denot) (b o n : ℕ) → length ys ≡ n → Room R n
+  pub shares_array : K → Soaks G → (R : RattleType) → ((l : Lft) → SharesAsFrom 𝓛 full_share R (shared_of R) l) → (ys : List R.Denot) (b o n : ℕ) → length ys ≡ n → Room R n
       → ((ν : ℕ) → Seq K 𝓛 (‵ ((ShrSlice erased (ν ∷ []) R).own_val (look_ref b o ys) (slice_val (b, o) n ∷ [])) ∷ ‵ (flft (ν ∷ []) full_share) ∷ ‵ (flent (ν ∷ []) (parts_f R ys b o)) ∷ Γ) G)
       → Seq K 𝓛 (‵ (cells (mem R) ys b o) ∷ Γ) G
   shares_array t z R c ys b o n e g k = lft_new t z (λ ν. move t (1 ∷ []) $
       use1 𝓛 (‵ (row R full_share ys b o)) (whole_out 𝓛 R ys b o) $ feq_i t ℕ (length ys) (length ys) refl $ fjoin t $
       use2 𝓛 (later ((‵ ((ShrSlice erased (ν ∷ []) R).own_val (look_ref b o ys) (slice_val (b, o) (length ys) ∷ [])) ⊛ ‵ (flent (ν ∷ []) (parts_f R ys b o))) ⊛ ‵ (flft (ν ∷ []) full_share)))
-      (lends_shr_slice 𝓛 R erased (ν ∷ []) full_share ys b o (subst (Room R) (sym e) g) (ν ∷ []) (c.shares full_share (ν ∷ [])) ((ν ∷ [], full_share) ∷ []) (λ x m. m) (λ x m. m)) $ await t z $ split t $ split t $
+      (lends_shr_slice 𝓛 R erased (ν ∷ []) full_share ys b o (subst (Room R) (sym e) g) (ν ∷ []) (c (ν ∷ [])) ((ν ∷ [], full_share) ∷ []) (λ x m. m) (λ x m. m)) $ await t z $ split t $ split t $
       -- [the slice; what comes back later; the token]
       rewrite t 0 (λ (m : ℕ). ‵ ((ShrSlice erased (ν ∷ []) R).own_val (look_ref b o ys) (slice_val (b, o) m ∷ []))) e refl $ move t (0 ∷ 2 ∷ []) $ k ν)
 

@@ -38,9 +38,9 @@ use types.Tokens.{lft_new, lft_end}
 use denote.RattleType.{RattleType, RowLaws, owns, flat}
 use denote.Shadow.{pure_l, pure_i}
 use denote.Laws.{Is, shows}
-use denote.Memory.{mem}
+use denote.Memory.{mem, shared_of}
 use denote.Slice.{slice_val, MutSlice, ShrSlice, heres, Room, room, finally, shr_slice_at, mut_slice_at, coded_holeys, shr_slice_copy}
-use denote.Copied.{Copied}
+use denote.Shares.{SharesAsFrom}
 use denote.Lend.{Held}
 use denote.Index.{row, whole_in, whole_out, opens_slice, closes_slice}
 use denote.Signature.{type_at, types_at}
@@ -86,13 +86,13 @@ module _ {M : Type 1} {𝓤 : Ura M} {𝓛 : Logic 𝓤} {K : Type 0} {Γ : List
       move t (3 ∷ 2 ∷ 1 ∷ []) $ closes_slice t z R ys zs e b o $
       fjoin t $ pure_i t (mut_slice_at R (ref b o γ zs) vs) (tt, (tt, tt)) (p.0 ∙ ap (λ (m : ℕ). slice_val (b, o) m ∷ []) (sym e), subst (Room R) (sym e) p.1) $ fjoin t $ k e))
 
-  pub shares_mut : K → Soaks G → (R : RattleType) → RowLaws R → Copied 𝓛 R → {κ : Lft} {q : Share} {γ : GName} (ys : List R.Denot) (b o : ℕ) {vs : List Val}
+  pub shares_mut : K → Soaks G → (R : RattleType) → RowLaws R → ((l : Lft) → SharesAsFrom 𝓛 full_share R (shared_of R) l) → {κ : Lft} {q : Share} {γ : GName} (ys : List R.Denot) (b o : ℕ) {vs : List Val}
       → ((ν : ℕ) → Seq K 𝓛 (‵ ((ShrSlice erased (ν ∷ []) R).own_val (look_ref b o ys) vs) ∷ ‵ (flft (ν ∷ []) full_share) ∷ SharedOut 𝓛 R κ q γ ν ys b o vs ∷ Γ) G)
       → Seq K 𝓛 (‵ ((MutSlice erased κ R).own_val (ref b o γ ys) vs) ∷ ‵ (flft κ q) ∷ Γ) G
   shares_mut t z R laws c {κ} {q} {γ} ys b o {vs} k =
       lft_new t z (λ ν. move t (1 ∷ 2 ∷ 0 ∷ []) $ fsplit t $ pure_l t (mut_slice_at R (ref b o γ ys) vs) (λ p. pure_i t (room R (length ys)) (tt, tt) p.1 $ fjoin t $
       use3 𝓛 (later (‵ ((O.ShrSlice erased (ν ∷ []) R).own_val (look_ref b o ys)) ⊛ (kept_s 𝓛 R κ q (ν ∷ []) γ ys b o ⊛ ‵ (flft (ν ∷ []) full_share))))
-      (sl_reshare_as 𝓛 R κ q (ν ∷ []) b o γ (𝓛.A.lft (ν ∷ []) full_share) (λ zs room n. share_cells 𝓛 R (ν ∷ []) b laws (ν ∷ []) (c.shares full_share (ν ∷ [])) ((ν ∷ [], full_share) ∷ []) (λ x m. m) (λ x m. m) zs o room n) ys) $ await t z $ split t $ move t (1 ∷ []) $ split t $ move t (2 ∷ []) $
+      (sl_reshare_as 𝓛 R κ q (ν ∷ []) b o γ (𝓛.A.lft (ν ∷ []) full_share) (λ zs room n. share_cells 𝓛 R (ν ∷ []) b laws (ν ∷ []) (c (ν ∷ [])) ((ν ∷ [], full_share) ∷ []) (λ x m. m) (λ x m. m) zs o room n) ys) $ await t z $ split t $ move t (1 ∷ []) $ split t $ move t (2 ∷ []) $
       fsplit t $ drop t $ pure_i t (shr_slice_at R (look_ref b o ys) vs) (tt, (tt, tt)) p $ fjoin t $
       -- [the new slice; what is kept; ν's token]
       pure_i t (mut_slice_at R (ref b o γ ys) vs) (tt, (tt, tt)) p $ move t (2 ∷ 0 ∷ []) $ join t $ move t (1 ∷ 2 ∷ 0 ∷ []) $ k ν))

@@ -2,8 +2,7 @@
 -- behind them and the places beyond as they came, so the lists left are equal; a house path and a fault
 -- exclude each other; of two first faults there is one. The choice is one pointer and one content, since its
 -- three cases exclude each other: own and spare are the lent references themselves, and the empty part has
--- the own list's pointer and no nodes. (A reference has a ghost name besides, which the empty part leaves
--- free: no program sees it.) Assumes nothing.
+-- the own list's pointer and no nodes. Assumes nothing.
 use mathlib.Core.Path.{◌≡◌, sym, ◌∙◌, ap, subst}
 use mathlib.Core.List.{List}
 use Prim.Native.Nat.{ℕ, ◌<◌}

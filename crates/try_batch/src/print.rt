@@ -1,5 +1,5 @@
 // Printing answers. What is written goes to the writer that is lent; where a function answers nothing, that it
-// is safe, ends, and answers an error only where the writer does is all there is to promise.
+// is safe and ends is all there is to promise. An error that it answers is the writer's.
 use hall::{Checked, Job, Refusal};
 use path::Housed;
 use planner::Planned;

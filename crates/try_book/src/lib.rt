@@ -1,6 +1,6 @@
 // An admission and a trolley to a floor book that is lent, for programs that have the book by value: it is
 // lent by `&mut` to `book::admit` or `book::admit_all`, and answered as that leaves it. So a program can run
-// both as they are lent, many times and on any record, with no proof by hand of its own.
+// both as they are lent, many times and on any record.
 //
 // Promised is, for every input, the promise of the function that is called, of the book that came and the one
 // that is answered. That fixes the answer, the book and the list of ticks (proofs/Unique.antt). Nothing is

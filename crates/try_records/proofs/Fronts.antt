@@ -6,8 +6,9 @@
 --                      later and what is behind; …], for a new lifetime ν
 --     unlends_front    [ν's token; what comes back later and what is behind; what the callee says of the
 --                      last list zs; …] → [the elements, with zs for the first n; …], and they are as many
---     shares_front, unshares_front     the same for a `&ν [T]`, T Copy: the list comes back as it was
--- and for the array of 80 records that every walk of this crate is passed:
+--     shares_front, unshares_front     the same for a `&ν [T]`, T that can be shared: the list comes back as it
+--                      was
+-- and for the array of 80 records that the functions of this crate are passed, which need none of this today:
 --     Records          its row
 --     records_tells, records_typed, records_makes     the laws of it that a parameter, a copy and a call ask
 --     room_within, front_fits     at most 80 of them have room, and are there
@@ -21,21 +22,21 @@ use seplogic.Ra.Ura.{Ura}
 use base.Fraction.{full_share}
 use mir.Syntax.{erased}
 use mir.Val.{Val}
-use base.Fml.{GName, Fml, fsep, feq, flft, flent}
+use base.Fml.{Lft, GName, Fml, fsep, feq, flft, flent}
 use types.Logic.{Logic}
 use types.Kit.{Goal, Soaks, Item, ‵, ◌⊛◌, Seq, Step, step, ◌$◌, move, use1, use2, split, rewrite, fsplit, fjoin}
 use types.SemTy.{cells}
 use denote.RattleType.{RattleType}
 use denote.Laws.{Is, Tells, Typed, Makes}
 use denote.Array.{Array, array_vals, Array-Tells, Array-Lawful, Array-Makes}
-use denote.Memory.{mem}
+use denote.Memory.{mem, shared_of}
 use denote.Slice.{slice_val, MutSlice, ShrSlice, Room, finally}
 use denote.Lend.{Held}
 use denote.Struct.Laws as LL
 use borrow.Table.Elements.{at, same_len, cut_app, join_app}
 use lib.Seq.{length-take-le}
 use borrow.Rule.Array.Rows.{parts_f}
-use denote.Copied.{Copied}
+use denote.Shares.{SharesAsFrom}
 use Rattle.hand.proofs.Walk.{ref, look_ref}
 use Rattle.records.specs.declared.Record.{Record}
 use Rattle.records.specs.contracts.Record as T
@@ -66,7 +67,7 @@ module _ {M : Type 1} {𝓤 : Ura M} {𝓛 : Logic 𝓤} {K : Type 0} {Γ : List
       rewrite t 1 (λ (m : ℕ). ‵ (cells (mem R) (behind n ys) b (at o (mem R).size m))) (sym e) refl $
       use2 𝓛 (‵ (cells (mem R) (zs ++ behind n ys) b o)) (join_app 𝓛 (mem R) zs (behind n ys) b o) $ k (same_len n ys zs e))
 
-  pub shares_front : K → Soaks G → (R : RattleType) → Copied 𝓛 R → (ys : List R.Denot) (b o n : ℕ) → n ≤ length ys → Room R n
+  pub shares_front : K → Soaks G → (R : RattleType) → ((l : Lft) → SharesAsFrom 𝓛 full_share R (shared_of R) l) → (ys : List R.Denot) (b o n : ℕ) → n ≤ length ys → Room R n
       → ((ν : ℕ) → Seq K 𝓛 (‵ ((ShrSlice erased (ν ∷ []) R).own_val (look_ref b o (take n ys)) (slice_val (b, o) n ∷ [])) ∷ ‵ (flft (ν ∷ []) full_share) ∷ ‵ (fsep (flent (ν ∷ []) (parts_f R (take n ys) b o)) (Behind R ys b o n)) ∷ Γ) G)
       → Seq K 𝓛 (‵ (cells (mem R) ys b o) ∷ Γ) G
   shares_front t z R c ys b o n l g k =

@@ -1,6 +1,6 @@
 // The questions that take records, for programs that have 80 of them in an array: each lends the first
 // `count` to the question. So a program can lend 63, 64 or 70 records, and see what is left in each of them
-// and in those behind, with no proof by hand of its own.
+// and in those behind.
 //
 // A question that may change the records writes the whole array to `fields` afterwards, in four columns of
 // 80: the starts, the goals, the distances, the ticks (crate `try_columns`, which makes the array from such
