@@ -12,7 +12,7 @@ pub mod marked;
 pub mod payload;
 pub mod print;
 
-ghost use Rattle.std.specs.Prelude.{◌≡◌, IfOk, replicate};
+ghost use Rattle.std.specs.Prelude.{◌≡◌, IfOk, OnErr, length, replicate};
 ghost use Rattle.try_batch.specs.Cases.{payload_room, CaseRead};
 
 use input::read_full;
@@ -36,14 +36,15 @@ pub fn payload_room() -> [u8; 262144]
 // Reads the next case, as much of its payload as the space and the input have, and prints its number. The
 // kind and the bytes come from the input, of which no contract says anything. So all that can be promised is
 // that the payload fits into the space, which keeps its length, and that the end of the batch leaves the space
-// as it came; or that reading or printing failed.
+// as it came. Where reading or printing failed, the space keeps its length, and what was read lies in it.
 pub fn next_case<R: Read, W: Write>(
     input: &mut R,
     out: &mut W,
     number: u64,
     space: &mut [u8],
 ) -> io::Result<Head>
-    ensures { IfOk result (CaseRead space.old space.new) }
+    ensures case { IfOk result (CaseRead space.old space.new) }
+    ensures failed { OnErr result (length space.new ≡ length space.old) }
 {
     let mut head = [0u8; 5];
     if read_full(input, &mut head)? < 5 {
