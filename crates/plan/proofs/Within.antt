@@ -4,10 +4,9 @@
 --     answer_within     the answer is within the lent bytes
 --     front_sized       so many bytes of them as the answer says
 --     input_answered    the answer to what was read is the answer to the input, once it is written
-use Rattle.std.proofs.Common.{◌≡◌, ℕ, ◌≤◌, ◌<◌, List, [], ◌++◌, Option, None, Some, IfSome, Result, Ok, Err, OnOk, arith, length, take, sym, ap, ◌∙◌, subst, append-nil, take_all, length-take-le}
-use native.Mathlib.Decide.{dec_lt}
-use lib.Seq.{take_at}
+use Rattle.std.proofs.Common.{◌≡◌, ℕ, ◌≤◌, ◌<◌, List, Option, None, Some, IfSome, Result, Ok, Err, OnOk, arith, length, take, sym, subst, length-take-le}
 use Rattle.std.specs.Io.KnownBytes.{Appends, Consumes, IsAtEnd}
+use Rattle.input.proofs.Unique.{read_front}
 use Rattle.report.specs.Answer.{AnswerText, Answering, whole, nothing}
 use Rattle.report.proofs.Printing.{prints_front, prints_within}
 use Rattle.report.proofs.OneAnswer.{answer_of_front}
@@ -24,24 +23,11 @@ front_sized {out' = out'} {r = r} says = sym (length-take-le r out' (answer_with
 
 -- ---- what was read
 
-front : (xs buf ys : List ℕ) (n : ℕ) → n ≤ length buf → xs ≡ take n buf ++ ys → (n < length buf → ys ≡ [])
-    → take (length buf) xs ≡ take n buf
-front xs buf ys n within e ended = cases (dec_lt n (length buf))
-  where
-    cases : Dec (n < length buf) → take (length buf) xs ≡ take n buf
-    cases (yes h) =
-        let all : xs ≡ take n buf = e ∙ ap (λ l. take n buf ++ l) (ended h) ∙ append-nil (take n buf) in
-        let long = length-take-le n buf within in
-        ap (take (length buf)) all ∙ take_all (length buf) (take n buf) (omega (arith, long, h))
-    cases (no h) =
-        let long : length (take n buf) ≡ length buf = omega (arith, length-take-le n buf within) in
-        ap (take (length buf)) e ∙ take_at (take n buf) ys (length buf) long
-
 first_bytes : (old new : Option (List ℕ)) (buf : List ℕ) (n : ℕ) → n ≤ length buf → Consumes old new (take n buf)
     → (n < length buf → IsAtEnd new) → IfSome old (λ xs. take (length buf) xs ≡ take n buf)
 first_bytes None new buf n within gave ended = tt
 first_bytes (Some xs) None buf n within gave ended = absurd gave
-first_bytes (Some xs) (Some ys) buf n within gave ended = front xs buf ys n within gave ended
+first_bytes (Some xs) (Some ys) buf n within gave ended = read_front xs buf ys n within gave ended
 
 -- ---- what was written
 
