@@ -2,8 +2,8 @@
 // from so many lifts, in the line, the grid and the random hall of the limit-size
 // jobs. With all slots taken one carrier is past, so that the call is accepted. A
 // case makes one call, and the same one again as often as it says, so that what a
-// process takes to read a payload does not count. The carriers of such a book and
-// the new one are also planned as one job, to compare.
+// process takes to read a payload does not count. The same book is asked whether the
+// move may go. Its carriers and the new one are also planned as one job, to compare.
 
 use crate::batch::Case;
 use crate::book::{Admissions, Book, Call, SLOTS};
@@ -94,6 +94,17 @@ impl Site {
         let asked = Admissions { hall: hall.clone(), book: book.clone(), calls: vec![*call] };
         let case = || Case::Admit { each: 0, again, asked: Box::new(asked.clone()) };
         (0..count).map(|_| case()).collect()
+    }
+
+    /// The same as questions: whether the move may go at the tick of the call, at which
+    /// all but one are on the floor. What the answer is makes little difference, since
+    /// refusal 17 takes a walk for each lift before.
+    pub fn askings(&self, again: u16, count: usize) -> Vec<Case> {
+        let asked_instead = |case: Case| match case {
+            Case::Admit { each, again, asked } => Case::Ask { each, again, asked },
+            other => other,
+        };
+        self.admissions(again, count).into_iter().map(asked_instead).collect()
     }
 
     /// A batch of `count` times the job of those on the floor and the new one, as a

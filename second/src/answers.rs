@@ -5,6 +5,7 @@
 use crate::batch::Case;
 use crate::job::{Job, Refusal};
 use crate::lent::{self, Lent};
+use crate::lent_asking;
 use crate::lent_book;
 use crate::lent_plan;
 use crate::lent_read;
@@ -55,8 +56,9 @@ fn judged(result: Result<(), Refusal>) -> Answer {
     either(result, |()| Answer::Passed)
 }
 
-/// All answers to one case: two for `n`, one for each call of `B`, one for each trolley
-/// of `T` and each move there that comes by itself, and one for every other kind.
+/// All answers to one case: two for `n`, one for each call of `B` and each question of
+/// `G`, one for each trolley of `T` and each move there that comes by itself, and one
+/// for every other kind.
 pub fn answers_to(case: &Case) -> Vec<Answer> {
     let one = match case {
         Case::Plan { text } => answer_to_text(text),
@@ -112,6 +114,10 @@ pub fn answers_to(case: &Case) -> Vec<Answer> {
         }
         Case::AdmitAll { each, again, asked } => {
             return lent_trolley::arrivals(*each > 0, *again, asked);
+        }
+        Case::Ask { each, again, asked } => {
+            let answers = lent_asking::questions(*each > 0, *again, asked);
+            return answers.into_iter().map(Answer::Left).collect();
         }
     };
     vec![one]

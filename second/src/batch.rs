@@ -60,10 +60,13 @@ pub enum Case {
     /// `T`: the same with trolleys, each with a lent answer list, and with moves that
     /// are admitted one by one.
     AdmitAll { each: u16, again: u16, asked: Box<Arrivals> },
+    /// `G`: ask a floor book whether moves may start at ticks, with its calls as the
+    /// questions.
+    Ask { each: u16, again: u16, asked: Box<Admissions> },
 }
 
 /// All kinds, in the order in which the histogram shows them.
-pub const KINDS: &[u8] = b"PHhQqCnWrmaptowjcxyBT";
+pub const KINDS: &[u8] = b"PHhQqCnWrmaptowjcxyBTG";
 
 impl Case {
     pub fn kind(&self) -> u8 {
@@ -89,6 +92,7 @@ impl Case {
             Case::WriteRecords { .. } => b'y',
             Case::Admit { .. } => b'B',
             Case::AdmitAll { .. } => b'T',
+            Case::Ask { .. } => b'G',
         }
     }
 }

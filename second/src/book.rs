@@ -64,10 +64,20 @@ impl Book {
         self.clock > LATEST_CLOCK || dwell_is_too_long(self.dwell) || some_carrier
     }
 
-    /// The carriers that have not left the floor before now.
-    pub fn standing(&self, now: u32) -> impl Iterator<Item = &Slot> {
+    /// The carriers that are held, past or not.
+    pub fn carriers(&self) -> impl Iterator<Item = &Slot> {
+        self.slots.iter().filter(|slot| !slot.is_free())
+    }
+
+    /// The carriers that have not left the floor before now, with their slots.
+    pub fn standing_in(&self, now: u32) -> impl Iterator<Item = (usize, &Slot)> {
         let dwell = self.dwell;
-        self.slots.iter().filter(move |slot| slot.stands(dwell, now))
+        self.slots.iter().enumerate().filter(move |(_, slot)| slot.stands(dwell, now))
+    }
+
+    /// The same without the slots.
+    pub fn standing(&self, now: u32) -> impl Iterator<Item = &Slot> {
+        self.standing_in(now).map(|(_, slot)| slot)
     }
 
     /// All numbers of the book, in the order in which an answer tells them.
@@ -81,14 +91,16 @@ impl Book {
     }
 }
 
-/// One admission: the clock value and the move.
+/// One admission: the clock value and the move. Of a question whether a move may go
+/// now is the tick that it is about.
 #[derive(Clone, Copy, Debug, PartialEq, Eq)]
 pub struct Call {
     pub now: u32,
     pub asked: Move,
 }
 
-/// A book, a network that stays the same, and calls one after the other.
+/// A book, a network that stays the same, and calls one after the other, or questions
+/// that are all put to the book as it came.
 #[derive(Clone)]
 pub struct Admissions {
     pub hall: Hall,

@@ -15,7 +15,7 @@ fn asked(admissions: &mut Admissions) -> &mut Call {
 }
 
 /// Damaged books.
-const BOOK_FAULTS: &[Fault] = &[
+pub const BOOK_FAULTS: &[Fault] = &[
     |case| case.book.clock = LATEST_CLOCK + 1,
     |case| case.book.dwell = 256,
     |case| case.book.slots[40].start = 1024,
@@ -24,14 +24,14 @@ const BOOK_FAULTS: &[Fault] = &[
     |case| case.book.slots[0].tick = LATEST_TICK + 1,
 ];
 
-const CLOCK_FAULTS: &[Fault] = &[
+pub const CLOCK_FAULTS: &[Fault] = &[
     |case| asked(case).now = case.book.clock.saturating_sub(1),
     |case| asked(case).now = LATEST_CLOCK + 1,
     |case| asked(case).now = u32::MAX,
 ];
 
 /// Refusals 2, 3 and 12 of the network.
-const HALL_FAULTS: &[Fault] = &[
+pub const HALL_FAULTS: &[Fault] = &[
     |case| case.hall.nodes = 0,
     |case| case.hall.nodes = 1025,
     |case| case.hall.nodes += 65_536,
@@ -58,12 +58,16 @@ pub const MOVE_FAULTS: &[Fault] = &[
     |case| asked(case).asked.goal = asked(case).asked.start,
 ];
 
-/// Refusal 17, for several reasons, and 15.
-const SLOT_FAULTS: &[Fault] = &[
+/// Refusal 17, for several reasons.
+pub const SLOT_FAULTS: &[Fault] = &[
     |case| case.book.slots[0] = Slot { start: 5, goal: 6, distance: 1, tick: 900 },
     |case| case.book.slots[33] = Slot { start: 7, goal: 1000, distance: 9, tick: 900 },
     |case| case.book.slots[63] = Slot { start: 0, goal: 12, distance: 9, tick: 900 },
     |case| case.book.slots[20] = Slot { start: 0, goal: 3, distance: 4, tick: 900 },
+];
+
+/// Refusal 15, which is no fault of a question.
+pub const FULL_FAULTS: &[Fault] = &[
     |case| {
         let held = case.book.slots[1];
         case.book.slots.iter_mut().filter(|slot| slot.is_free()).for_each(|slot| *slot = held);
@@ -89,7 +93,7 @@ pub fn sound() -> Admissions {
 }
 
 pub fn all_faults() -> Vec<Fault> {
-    [BOOK_FAULTS, CLOCK_FAULTS, HALL_FAULTS, MOVE_FAULTS, SLOT_FAULTS].concat()
+    [BOOK_FAULTS, CLOCK_FAULTS, HALL_FAULTS, MOVE_FAULTS, SLOT_FAULTS, FULL_FAULTS].concat()
 }
 
 fn case_of(asked: Admissions) -> Case {

@@ -11,11 +11,11 @@ use crate::halls::{grid, line};
 use crate::job::{Hall, MOST_DWELL};
 use crate::page;
 
-const CLOCK: u32 = 100;
-const DWELL: u32 = 3;
+pub const CLOCK: u32 = 100;
+pub const DWELL: u32 = 3;
 
 /// What is put into a slot that held a sound carrier.
-const CHANGES: &[fn(&mut Slot)] = &[
+pub const CHANGES: &[fn(&mut Slot)] = &[
     |slot| slot.start = 1023,
     |slot| slot.start = 1024,
     |slot| slot.start = 65_535,
@@ -41,7 +41,7 @@ const CHANGES: &[fn(&mut Slot)] = &[
 
 /// Carriers that are past at the clock, one of them in no hall of this size, and
 /// carriers that come later.
-fn others(hall: &Hall) -> Vec<Slot> {
+pub fn others(hall: &Hall) -> Vec<Slot> {
     vec![
         carrier(hall, 0, 11, 5),
         carrier(hall, 3, 8, 5000),

@@ -62,7 +62,7 @@ fn recorded(job: &Recorded) -> Vec<u8> {
     out
 }
 
-/// A network, and behind it a book and calls.
+/// A network, and behind it a book and calls or questions.
 fn admissions(asked: &Admissions) -> Vec<u8> {
     let mut out = network(&asked.hall);
     put_admissions(&mut out, asked);
@@ -139,7 +139,7 @@ impl Case {
                 Parts::new([0, *carrier, 0, count(job)], recorded(job)).with(list, &[])
             }
             Case::WriteRecords { out, job } => Parts::new([*out, 0, 0, count(job)], recorded(job)),
-            Case::Admit { each, again, asked } => {
+            Case::Admit { each, again, asked } | Case::Ask { each, again, asked } => {
                 Parts::new([asked.calls.len() as u16, *each, *again, 0], admissions(asked))
             }
             Case::AdmitAll { each, again, asked } => {
@@ -195,6 +195,11 @@ impl Case {
                 let hall = body.listed()?.hall;
                 let asked = Box::new(body.arrivals(a0, hall)?);
                 Case::AdmitAll { each: a1, again: a2, asked }
+            }
+            b'G' => {
+                let hall = body.listed()?.hall;
+                let asked = Box::new(body.admissions(a0, hall)?);
+                Case::Ask { each: a1, again: a2, asked }
             }
             other => return Err(format!("no kind has the byte {}", other)),
         };

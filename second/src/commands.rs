@@ -95,6 +95,14 @@ pub fn admissions_command(words: [&str; 5], path: &str) -> Result<bool, String> 
     Ok(true)
 }
 
+/// The same for questions whether a move may go.
+pub fn askings_command(words: [&str; 5], path: &str) -> Result<bool, String> {
+    let [hall, held, starts, again, count] = words;
+    let cases = site(hall, held, starts)?.askings(short(again)?, number(count)? as usize);
+    write_batch(path, &cases)?;
+    Ok(true)
+}
+
 pub fn carriers_command(words: [&str; 4], path: &str) -> Result<bool, String> {
     let [hall, held, starts, count] = words;
     let cases = site(hall, held, starts)?.plans(number(count)? as usize);

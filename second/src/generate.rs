@@ -1,9 +1,10 @@
 // A batch: all small networks, also with closed nodes or a dwell, the systematic
 // faults, carriers that wait on their goals, trains, the limits, lent tables of
 // all lengths, as many random cases as asked for, jobs that are written as texts,
-// floor books, and trolleys. Random cases take turns through every kind and every
-// damage, so that even a short run has some of each.
+// floor books, trolleys, and questions whether a move may go. Random cases take turns
+// through every kind and every damage, so that even a short run has some of each.
 
+use crate::asking_cases::asking_cases;
 use crate::batch::Case;
 use crate::book_cases::book_cases;
 use crate::closed_cases::closed_cases;
@@ -236,5 +237,6 @@ pub fn batch(seed: u64, count: usize) -> Vec<Case> {
     cases.extend(write_cases(&mut dice, count));
     cases.extend(book_cases(&mut dice, count));
     cases.extend(trolley_cases(&mut dice, count));
+    cases.extend(asking_cases(&mut dice, count));
     cases
 }

@@ -1,12 +1,13 @@
 // What a batch holds: how often each kind of case is accepted and how often
 // it meets each refusal, so that a reader sees at a glance what is missing.
 // Refusal 9 comes only where a table is lent shorter than its least length, and
-// the column of 6, which is not in use, has zeros alone. Of a floor book each call
-// counts by itself, and a trolley counts once. What was chosen, planned, written and
-// admitted is told in a few lines below the table.
+// the column of 6, which is not in use, has zeros alone. Of a floor book each call and
+// each question counts by itself, and a trolley counts once. What was chosen, planned,
+// written, admitted and asked is told in a few lines below the table.
 
 use crate::answers::answers_to;
 use crate::batch::{Case, KINDS};
+use crate::histogram_asking::Questions;
 use crate::histogram_book::Admitted;
 use crate::histogram_trolley::Unloaded;
 use crate::histogram_write::Written;
@@ -141,7 +142,7 @@ impl Extra {
     }
 
     fn note_refusal(&mut self, case: &Case, refusal: Refusal) {
-        if refusal.number == 2 && b"nptowjxyBT".contains(&case.kind()) {
+        if refusal.number == 2 && b"nptowjxyBTG".contains(&case.kind()) {
             self.places[refusal.at] += 1;
         }
     }
@@ -159,10 +160,12 @@ pub fn histogram(cases: &[Case]) -> String {
     let mut written = Written::default();
     let mut admitted = Admitted::default();
     let mut unloaded = Unloaded::default();
+    let mut questions = Questions::default();
     for case in cases {
         extra.note(case);
         admitted.note(case);
         unloaded.note(case);
+        questions.note(case);
         let place = KINDS.iter().position(|&kind| kind == case.kind()).expect("a known kind");
         rows[place].cases += 1;
         for answer in answers_to(case) {
@@ -179,9 +182,14 @@ pub fn histogram(cases: &[Case]) -> String {
             }
         }
     }
-    let below =
-        [shared.printed(), written.printed(), admitted.printed(), unloaded.printed()].concat();
-    printed(&rows, &extra, &below)
+    let below = [
+        shared.printed(),
+        written.printed(),
+        admitted.printed(),
+        unloaded.printed(),
+        questions.printed(),
+    ];
+    printed(&rows, &extra, &below.concat())
 }
 
 fn printed(rows: &[Row], extra: &Extra, below: &str) -> String {

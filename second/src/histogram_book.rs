@@ -41,10 +41,15 @@ fn walks(book: &Book, call: Call, answer: Result<u32, Refusal>) -> usize {
     if answer.map_or_else(|refusal| ![15, 17].contains(&refusal.number), |_| false) {
         return 0;
     }
-    let mut starts: Vec<u16> = book.standing(call.now).map(|slot| slot.start).collect();
+    2 + distinct_starts(book, call.now)
+}
+
+/// How many starts those on the floor have.
+pub fn distinct_starts(book: &Book, now: u32) -> usize {
+    let mut starts: Vec<u16> = book.standing(now).map(|slot| slot.start).collect();
     starts.sort_unstable();
     starts.dedup();
-    2 + starts.len()
+    starts.len()
 }
 
 impl Admitted {

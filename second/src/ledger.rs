@@ -7,7 +7,8 @@
 // was filled. So the list begins at the first call that is accepted, with those of
 // the lent book that are still on the floor then and fit the hall.
 
-use crate::book::{Book, Call, Slot, LATEST_CLOCK, SLOTS};
+use crate::book::{Book, Call, Slot, SLOTS};
+use crate::call_checks::check_call;
 use crate::floor::{Floor, Row};
 use crate::job::{refuse, Hall, Refusal};
 use crate::rule::Pair;
@@ -67,31 +68,14 @@ impl<'a> Ledger<'a> {
     pub fn admit(&mut self, call: Call) -> Result<Admitted, Refusal> {
         let Call { now, asked } = call;
         let book = self.told();
-        if book.is_damaged() {
-            return refuse(16, 0);
-        }
-        if now < self.clock || now > LATEST_CLOCK {
-            return refuse(14, 0);
-        }
-        self.hall.check_with_move(asked)?;
-        let floor = self.floor.get_or_insert_with(|| Floor::of(self.hall));
-        let distance = match floor.distance(asked.start, asked.goal) {
-            Some(distance) => distance,
-            None => return refuse(8, 0),
-        };
-        let stands = |slot: &Slot| slot.stands(book.dwell, now);
-        for (place, slot) in book.slots.iter().enumerate().filter(|(_, slot)| stands(slot)) {
-            if floor.distance(slot.start, slot.goal) != Some(slot.distance.into()) {
-                return refuse(17, place);
-            }
-        }
-        let place = match book.slots.iter().position(|slot| !stands(slot)) {
+        let (floor, distance) = check_call(self.hall, &book, call, &mut self.floor)?;
+        let place = match book.slots.iter().position(|slot| !slot.stands(book.dwell, now)) {
             Some(place) => place,
             None => return refuse(15, 0),
         };
         let rows = (floor.row(asked.start), floor.row(asked.goal));
         if !self.begun {
-            self.enter(&book, stands);
+            self.enter(&book, |slot| slot.stands(book.dwell, now));
             self.begun = true;
         }
         self.give_up(now);

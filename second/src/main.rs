@@ -6,6 +6,17 @@
 
 mod admissions;
 mod answers;
+mod asking;
+mod asking_cases;
+mod asking_checks;
+mod asking_clock;
+mod asking_damage;
+mod asking_days;
+mod asking_ends;
+mod asking_make;
+mod asking_random;
+mod asking_slots;
+mod asking_stale;
 mod batch;
 mod book;
 mod book_cases;
@@ -19,6 +30,7 @@ mod book_random;
 mod book_slots;
 mod book_small;
 mod book_stale;
+mod call_checks;
 mod closed_cases;
 mod closed_texts;
 mod closing;
@@ -43,6 +55,7 @@ mod forgetful;
 mod generate;
 mod halls;
 mod histogram;
+mod histogram_asking;
 mod histogram_book;
 mod histogram_trolley;
 mod histogram_write;
@@ -50,6 +63,7 @@ mod job;
 mod least_cases;
 mod ledger;
 mod lent;
+mod lent_asking;
 mod lent_book;
 mod lent_cases;
 mod lent_jobs;
@@ -75,11 +89,13 @@ mod program_texts;
 mod questions;
 mod rule;
 mod safe;
+mod safe_asking;
 mod safe_book;
 mod safe_print;
 mod safe_read;
 mod safe_ticks;
 mod selftest;
+mod selftest_asking;
 mod selftest_book;
 mod selftest_closed;
 mod selftest_coding;
@@ -110,9 +126,9 @@ mod write_faults;
 mod write_jobs;
 
 use commands::{
-    admissions_command, again_command, answer_command, carriers_command, compare_command,
-    generate_command, halves_command, limit_command, plan_command, safe_command, selftest_command,
-    show_command, texts_command, trolleys_command,
+    admissions_command, again_command, answer_command, askings_command, carriers_command,
+    compare_command, generate_command, halves_command, limit_command, plan_command, safe_command,
+    selftest_command, show_command, texts_command, trolleys_command,
 };
 use std::process::ExitCode;
 
@@ -125,6 +141,8 @@ const USAGE: &str = "usage:
                                     write a batch that reads and writes the longest text
   second admissions HALL HELD STARTS AGAIN COUNT FILE
                                     write a batch of admissions to a floor book
+  second askings HALL HELD STARTS AGAIN COUNT FILE
+                                    write a batch of questions whether a move may go
   second carriers HALL HELD STARTS COUNT FILE
                                     write a batch that plans the carriers of that book
   second trolleys HALL HELD MOVES ONE AGAIN COUNT FILE
@@ -152,6 +170,9 @@ fn main() -> ExitCode {
         }
         ["admissions", hall, held, starts, again, count, path] => {
             admissions_command([hall, held, starts, again, count], path)
+        }
+        ["askings", hall, held, starts, again, count, path] => {
+            askings_command([hall, held, starts, again, count], path)
         }
         ["carriers", hall, held, starts, count, path] => {
             carriers_command([hall, held, starts, count], path)

@@ -1,6 +1,6 @@
 // What payloads are made of: numbers of two or four bytes, lowest byte first,
-// lists, jobs from numbers, and floor books with calls or arrivals. Each has a
-// function that puts it and one that takes it, and a payload that ends within a part
+// lists, jobs from numbers, and floor books with calls, questions or arrivals. Each has
+// a function that puts it and one that takes it, and a payload that ends within a part
 // is an error.
 
 use crate::book::{Admissions, Book, Call, Slot};
@@ -50,7 +50,7 @@ fn put_book(out: &mut Vec<u8>, book: &Book) {
     }
 }
 
-/// A book and the calls to it; their network stands before them.
+/// A book and the calls or questions to it; their network stands before them.
 pub fn put_admissions(out: &mut Vec<u8>, asked: &Admissions) {
     put_book(out, &asked.book);
     for call in &asked.calls {
@@ -133,7 +133,7 @@ impl<'a> Rest<'a> {
         Ok(Call { now, asked: Move { start: self.short()?, goal: self.short()? } })
     }
 
-    /// A book and so many calls, one at least.
+    /// A book and so many calls or questions, one at least.
     pub fn admissions(&mut self, count: u16, hall: Hall) -> Result<Admissions, String> {
         if count == 0 {
             return Err("a book without a call".to_string());

@@ -5,11 +5,12 @@
 // counts as skipped and is judged from distances alone. No path may stand on a
 // closed node. The limits of ticks, the bound by the last ticks before, and what
 // holds of carriers that share an end are checked in halls of any size. The days of
-// floor books are checked in safe_book.rs.
+// floor books are checked in safe_book.rs, and moves that may go in safe_asking.rs.
 
 use crate::answers::answer_to_text;
 use crate::batch::Case;
 use crate::job::Job;
+use crate::safe_asking::Questions;
 use crate::safe_book::Days;
 use crate::safe_print::{check_print, read_print, Printed};
 use crate::safe_ticks::{check_bounds, check_shared_ends, check_ticks, Sharing};
@@ -38,6 +39,7 @@ pub struct Tally {
     tried: u64,
     skipped: u64,
     days: Days,
+    questions: Questions,
     pub faults: u64,
 }
 
@@ -46,7 +48,7 @@ impl Tally {
         format!(
             "safe: {} jobs, {} of them with closed nodes, {} with a dwell; {} pairs of carriers, \
              {} path pairs tried, {} skipped; in {} larger jobs bounds and shared ends alone; {} \
-             pairs share an end, {} jobs have one start\n{}safe: {} faults\n",
+             pairs share an end, {} jobs have one start\n{}{}safe: {} faults\n",
             self.jobs,
             self.closed,
             self.dwelling,
@@ -57,6 +59,7 @@ impl Tally {
             self.sharing.pairs,
             self.sharing.rows,
             self.days.printed(),
+            self.questions.printed(),
             self.faults
         )
     }
@@ -150,14 +153,15 @@ fn check_text(tally: &mut Tally, number: usize, source: &[u8]) {
     }
 }
 
-/// Checks all accepted `P` cases and all days of floor books.
+/// Checks all accepted `P` cases, all days of floor books and all moves that may go.
 pub fn check(cases: &[Case]) -> Tally {
     let mut tally = Tally::default();
     for (number, case) in cases.iter().enumerate() {
         if let Case::Plan { text } = case {
             check_text(&mut tally, number, text);
         }
-        if let Err(what) = tally.days.check(case) {
+        let checked = tally.days.check(case).and_then(|()| tally.questions.check(case));
+        if let Err(what) = checked {
             tally.fault(number, what);
         }
     }

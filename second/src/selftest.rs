@@ -10,6 +10,7 @@ use crate::mistakes;
 use crate::page;
 use crate::plan::plan;
 use crate::rule::Pair;
+use crate::selftest_asking;
 use crate::selftest_book;
 use crate::selftest_closed;
 use crate::selftest_coding;
@@ -141,6 +142,7 @@ pub fn run() -> (String, bool) {
     selftest_coding::run(&mut checks);
     selftest_book::run(&mut checks);
     selftest_trolley::run(&mut checks);
+    selftest_asking::run(&mut checks);
     let mut report = checks.failures.join("\n");
     if !report.is_empty() {
         report.push('\n');

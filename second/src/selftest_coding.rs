@@ -2,6 +2,7 @@
 // come back from a file as they were, and files that break the format.
 
 use crate::answers::printed_to;
+use crate::asking_random::random_questions;
 use crate::batch::{Case, KINDS};
 use crate::book_random::random_books;
 use crate::coding::cases_of;
@@ -75,6 +76,7 @@ fn there_and_back(checks: &mut Checks) {
     cases.extend(every_question(&mut dice, &page::printed_job()));
     cases.extend(random_books(&mut dice, 40));
     cases.extend(random_trolleys(&mut dice, 40));
+    cases.extend(random_questions(&mut dice, 40));
     let has = |kind: &&u8| cases.iter().any(|case| case.kind() == **kind);
     checks.same("every kind", KINDS.iter().filter(has).count(), KINDS.len());
     let mut file = Vec::new();
@@ -92,6 +94,7 @@ fn broken(checks: &mut Checks) {
     let mut whole = every_question(&mut dice, &page::printed_job());
     whole.extend(random_books(&mut dice, 3));
     whole.extend(random_trolleys(&mut dice, 3));
+    whole.extend(random_questions(&mut dice, 3));
     for case in &whole {
         let (kind, payload) = (case.kind(), case.payload());
         let is_read = |payload: &[u8]| cases_of(&file_of(kind, payload)).is_ok();

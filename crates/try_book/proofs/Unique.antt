@@ -1,6 +1,7 @@
 -- One answer and one book fit the promise of an admission to a book that was lent and came back, and one end,
 -- one book and one list of ticks that of a trolley: they are those of the steps by value (`answer_unique`,
--- `ended_unique` of crate `admission`). Assumes nothing.
+-- `ended_unique` of crate `admission`). So does one answer to the question whether a move may go
+-- (`asked_unique`). Assumes nothing.
 use mathlib.Core.Path.{◌≡◌}
 use mathlib.Core.List.{List}
 use Prim.Native.Nat.{ℕ}
@@ -10,6 +11,9 @@ use Rattle.admission.specs.declared.Stepped.{Stepped}
 use Rattle.admission.specs.declared.trolley.Rode.{Rode}
 use Rattle.admission.specs.Admission.{Admission, said_answer}
 use Rattle.admission.specs.Trolley.{said_ended, Ride}
+use Rattle.admission.specs.declared.ask.Asked.{Asked}
+use Rattle.admission.specs.Asking.{Asking, said_asked}
+use Rattle.admission.proofs.Asking.{asked_unique}
 use Rattle.admission.proofs.Unique.{answer_unique}
 use Rattle.admission.proofs.RideUnique.{ended_unique}
 
@@ -27,3 +31,7 @@ pub admit_all_lent_unique : (N : Network) (b : Book) (now : ℕ) (moves ticks : 
 admit_all_lent_unique N b now moves ticks r r' x y =
     let e = ended_unique N b now moves ticks r.ended r'.ended x y in
     ((λ i. record { ended = e.0 i; book = e.1 i }), e.2)
+
+pub may_start_lent_unique : (N : Network) {b : Book} {t s g : ℕ} (r r' : Asked)
+    → Asking N b t s g (said_asked r) → Asking N b t s g (said_asked r') → r ≡ r'
+may_start_lent_unique N = asked_unique N

@@ -1,6 +1,7 @@
-// An admission and a trolley to a floor book that is lent, for programs that have the book by value: it is
-// lent by `&mut` to `book::admit` or `book::admit_all`, and answered as that leaves it. So a program can run
-// both as they are lent, many times and on any record.
+// An admission and a trolley to a floor book that is lent, and the question whether a move may go, for
+// programs that have the book by value: it is lent by `&mut` to `book::admit` or `book::admit_all`, and
+// answered as that leaves it, or by `&` to `book::may_start`. So a program can run all three as they are
+// lent, many times and on any record.
 //
 // Promised is, for every input, the promise of the function that is called, of the book that came and the one
 // that is answered. That fixes the answer, the book and the list of ticks (proofs/Unique.antt). Nothing is
@@ -10,10 +11,12 @@
 ghost use Rattle.hall.specs.Floor.{network_of};
 ghost use Rattle.admission.specs.Admission.{Admission, said_answer};
 ghost use Rattle.admission.specs.Trolley.{said_ended, Ride};
+ghost use Rattle.admission.specs.Asking.{Asking, said_asked};
 
 use admission::Stepped;
+use admission::ask::Asked;
 use admission::trolley::Rode;
-use book::{admit, admit_all};
+use book::{admit, admit_all, may_start};
 use slots::Book;
 
 // `book::admit` with the book lent.
@@ -61,4 +64,22 @@ pub fn admit_all_lent(
         ended: ended,
         book: lent,
     }
+}
+
+// `book::may_start` with the book lent.
+pub fn may_start_lent(
+    book: Book,
+    t: u32,
+    nodes: usize,
+    lanes: &[u16],
+    closed: &[u16],
+    start: u16,
+    goal: u16,
+) -> Asked
+    ensures { Asking
+        (network_of nodes lanes.now closed.now)
+        book t start goal
+        (said_asked result) }
+{
+    may_start(&book, t, nodes, lanes, closed, start, goal)
 }

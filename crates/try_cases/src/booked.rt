@@ -1,18 +1,19 @@
-// Admissions to a floor book that is lent (crate `try_book`). Behind its network a case has a book, and then
-// the calls, of which each is made on the book that the one before left. How many calls there are is the
-// payload's first number. The second says whether the book is told after every call or after the last one
-// only, and the third how many times more each call is made on the book that it meets: the benchmark gets the
-// time of an admission from that.
+// Admissions to a floor book that is lent (crate `try_book`), and questions to it. Behind its network a case
+// has a book, and then the calls (`B`), of which each is made on the book that the one before left, or
+// questions whether a move may go (`G`), all to the same book. How many there are is the payload's first
+// number. The second says whether the book is told after each of them or after the last one only, and the
+// third how many times more each is made on the book that it meets: the benchmark gets their times from that.
 use admission::Answer;
+use admission::ask::Asked;
 use slots::{Book, Slot};
 use std::io;
 use std::io::Write;
 use try_batch::marked::print_runs;
 use try_batch::payload::{behind_list, job_room, loaded_list, long_at, rest, short_at};
 use try_batch::print;
-use try_book::admit_lent;
+use try_book::{admit_lent, may_start_lent};
 
-// What a payload has of a slot, of a book and of a call.
+// What a payload has of a slot, of a book, and of a call or a question.
 const SLOT_BYTES: usize = 10;
 
 pub(crate) const BOOK_BYTES: usize = 648;
@@ -100,10 +101,62 @@ pub(crate) fn call<W: Write>(
     Ok(done.book)
 }
 
-// The calls one after the other. The book is told at the end, and where every call is to be followed by it
-// also before each call but the first.
+fn print_asked<W: Write>(out: &mut W, answer: Asked) -> io::Result<()> {
+    match answer {
+        Asked::May => print::word(out, b"MAY\n"),
+        Asked::Forbids(slot) => print::line(out, b"FORBIDS ", slot as u64),
+        Asked::Refused(r) => print::refused(out, r),
+    }
+}
+
+// One question whether a move may go at a tick: its answer is printed. Further ones have the same answer.
+fn ask<W: Write>(
+    out: &mut W,
+    further: u16,
+    t: u32,
+    start: u16,
+    goal: u16,
+    nodes: usize,
+    lanes: &[u16],
+    closed: &[u16],
+    book: Book,
+) -> io::Result<()> {
+    let mut i: u16 = 0;
+    while i < further {
+        may_start_lent(book, t, nodes, lanes, closed, start, goal);
+        i += 1;
+    }
+    let answer = may_start_lent(book, t, nodes, lanes, closed, start, goal);
+    print_asked(out, answer)
+}
+
+// A call or a question, whose tick stands where a call has its clock value, and the book that the next one
+// finds.
+fn one<W: Write>(
+    out: &mut W,
+    kind: u8,
+    further: u16,
+    s: &[u8],
+    nodes: usize,
+    lanes: &[u16],
+    closed: &[u16],
+    book: Book,
+) -> io::Result<Book> {
+    let clock = long_at(s, 0);
+    let start = short_at(s, 4);
+    let goal = short_at(s, 6);
+    if kind == b'G' {
+        ask(out, further, clock, start, goal, nodes, lanes, closed, book)?;
+        return Ok(book);
+    }
+    call(out, further, clock, start, goal, nodes, lanes, closed, book)
+}
+
+// The calls or questions one after the other. The book is told at the end, and where it is to be told after
+// each also before each but the first.
 fn call_all<W: Write>(
     out: &mut W,
+    kind: u8,
     s: &[u8],
     calls: &[u8],
     nodes: usize,
@@ -122,25 +175,16 @@ fn call_all<W: Write>(
             print_book(out, held.clock, held.dwell, slots)?;
         }
         let from = rest(calls, CALL_BYTES * i as usize);
-        held = call(
-            out,
-            further,
-            long_at(from, 0),
-            short_at(from, 4),
-            short_at(from, 6),
-            nodes,
-            lanes,
-            closed,
-            held,
-        )?;
+        held = one(out, kind, further, from, nodes, lanes, closed, held)?;
         i += 1;
     }
     let slots = held.slots;
     print_book(out, held.clock, held.dwell, slots)
 }
 
-// The question. Its network is a job without moves and order, and the book stands behind the job's dwell.
-pub(crate) fn admit<W: Write>(out: &mut W, s: &[u8], job: &[u8]) -> io::Result<()> {
+// A case of either kind. Its network is a job without moves and order, and the book stands behind the job's
+// dwell.
+pub(crate) fn admit<W: Write>(out: &mut W, kind: u8, s: &[u8], job: &[u8]) -> io::Result<()> {
     let network = rest(job, 4);
     let behind_lanes = behind_list(network);
     let places = behind_list(behind_list(behind_lanes));
@@ -149,6 +193,7 @@ pub(crate) fn admit<W: Write>(out: &mut W, s: &[u8], job: &[u8]) -> io::Result<(
     let mut closed_space = job_room();
     call_all(
         out,
+        kind,
         s,
         rest(from, BOOK_BYTES),
         long_at(job, 0) as usize,

@@ -15,7 +15,7 @@ use try_batch::{Head, next_case, payload_room};
 
 fn answer_case<W: Write>(out: &mut W, kind: u8, s: &[u8]) -> io::Result<()> {
     match kind {
-        b'B' => booked::admit(out, s, body(s)),
+        b'B' | b'G' => booked::admit(out, kind, s, body(s)),
         b'T' => trolleys::admit_all(out, s, body(s)),
         b'r' => on_records::read(out, s, body(s)),
         b'p' | b'o' | b'j' | b'y' => on_records::ask(out, kind, s, body(s)),

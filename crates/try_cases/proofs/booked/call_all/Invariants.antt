@@ -1,4 +1,4 @@
--- The measure is how many calls are left.
+-- The measure is how many calls or questions are left.
 use Rattle.std.proofs.Common.{◌-◌}
 use Rattle.try_cases.proofs.booked.call_all.Given as goal
 
