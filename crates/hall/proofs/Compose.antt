@@ -11,8 +11,7 @@ use Prim.Native.Nat.{ℕ}
 use native.Mathlib.Omega.{arith}
 use Rattle.hall.specs.declared.Fault.{Fault}
 use Rattle.hall.specs.declared.Refusal.{Refusal}
-use Rattle.hall.specs.declared.Checked.{Checked}
-use Rattle.hall.specs.declared.Checked.TheVariants.{Sound, Refused}
+use Rattle.std.specs.Prelude.{Result, Ok, Err}
 use Rattle.hall.specs.Stages.{Check, Stage, Question, FirstOf, here, later, ClearAt, FirstAt, FirstIn}
 use Rattle.hall.specs.Stages.{NoneIn, FirstStage, NoStage, First, None}
 use Rattle.hall.specs.Numbers.{number_of}
@@ -20,7 +19,7 @@ use Rattle.hall.specs.Said.{Said, accepted, refused, Fits, Judged}
 use Rattle.hall.proofs.Stages.{Decided, decided_by}
 
 -- an answer is sound or a refusal, and not both
-pub not_both : {c : Checked} {r : Refusal} → c ≡ Refused r → ¬ (c ≡ Sound)
+pub not_both : {c : Result Unit Refusal} {r : Refusal} → c ≡ Err r → ¬ (c ≡ Ok tt)
 not_both e s = let z : ◌≡◌ {A = ℕ} 0 1 = cc in omega arith
 
 -- ---- a stage in front
@@ -90,28 +89,28 @@ module _ (a b : Question) {f : ℕ} {p : ℕ} where
 -- ---- what functions answer that check one after the other
 
 -- the refusal that names the first fault
-pub answered : {q : Question} {c : Checked} {f : Fault} {p : ℕ} →
-    c ≡ Refused (record { fault = f; place = p }) → First q (number_of f) p → Judged q c
+pub answered : {q : Question} {c : Result Unit Refusal} {f : Fault} {p : ℕ} →
+    c ≡ Err (record { fault = f; place = p }) → First q (number_of f) p → Judged q c
 answered e h = rw e h
 
-module _ (a : Question) {c : Checked} where
-  pub refused_first : {r : Refusal} → c ≡ Refused r → Judged a c → First a (number_of r.fault) r.place
+module _ (a : Question) {c : Result Unit Refusal} where
+  pub refused_first : {r : Refusal} → c ≡ Err r → Judged a c → First a (number_of r.fault) r.place
   refused_first e h = rw e at h
 
-  pub sound_none : c ≡ Sound → Judged a c → None a
+  pub sound_none : c ≡ Ok tt → Judged a c → None a
   sound_none e h = rw e at h
 
 module _ (a b : Question) where
   -- a refusal that is returned as it came
-  pub judged_stop : {c : Checked} {r : Refusal} → c ≡ Refused r → Judged a c → Judged (a ++ b) c
+  pub judged_stop : {c : Result Unit Refusal} {r : Refusal} → c ≡ Err r → Judged a c → Judged (a ++ b) c
   judged_stop e h = rw e (first_before b (refused_first a e h))
 
   -- the answer of what is asked after a
-  pub judged_after : None a → (d : Checked) → Judged b d → Judged (a ++ b) d
-  judged_after n Sound h = none_append n h
-  judged_after n (Refused r) h = first_after n h
+  pub judged_after : None a → (d : Result Unit Refusal) → Judged b d → Judged (a ++ b) d
+  judged_after n (Ok u) h = none_append n h
+  judged_after n (Err r) h = first_after n h
 
-  pub judged_then : {c : Checked} → c ≡ Sound → Judged a c → (d : Checked) → Judged b d → Judged (a ++ b) d
+  pub judged_then : {c : Result Unit Refusal} → c ≡ Ok tt → Judged a c → (d : Result Unit Refusal) → Judged b d → Judged (a ++ b) d
   judged_then e h = judged_after (sound_none a e h)
 
 pub decided_append : {a b : Question} → Decided a → Decided b → Decided (a ++ b)
@@ -129,9 +128,9 @@ pub record ◌⇒◌ (a b : Question) : Type 0 where
   pub firsts : (f : ℕ) (p : ℕ) → First a f p → First b f p
   pub nones : None a → None b
 
-pub ⇒-judged : {a b : Question} → a ⇒ b → (c : Checked) → Judged a c → Judged b c
-⇒-judged e Sound h = e.nones h
-⇒-judged e (Refused r) h = e.firsts (number_of r.fault) r.place h
+pub ⇒-judged : {a b : Question} → a ⇒ b → (c : Result Unit Refusal) → Judged a c → Judged b c
+⇒-judged e (Ok u) h = e.nones h
+⇒-judged e (Err r) h = e.firsts (number_of r.fault) r.place h
 
 pub ⇒-append : (a b : Question) {a' b' : Question} → a ⇒ a' → b ⇒ b' → a ++ b ⇒ a' ++ b'
 ⇒-append a b {a'} {b'} d e = record { firsts = λ f p h. cases f p (first_split a b h); nones = both }

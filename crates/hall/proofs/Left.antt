@@ -22,20 +22,56 @@ use lib.Seq.{take_at, ext_get_or}
 use borrow.Author.Tests.{ne_eqb}
 use Rattle.hall.specs.Stages.{Stage, Question, here, later, FirstAt, FirstStage, First}
 use Rattle.hall.specs.Limits.{carrier_limit}
-use Rattle.hall.specs.Left.{zeroed, filled, left, RowLeft}
+use Rattle.hall.specs.Left.{with_front, zeroed, filled, left, RowLeft}
 
 pub zeroed_length : (n : ℕ) (t : List ℕ) → length (zeroed n t) ≡ length t
-unfolding zeroed
+unfolding with_front
 zeroed_length zero t = refl
 zeroed_length (suc n) [] = refl
 zeroed_length (suc n) (x ∷ t) = ap suc (zeroed_length n t)
 
+-- a list with a value in front: in no places, in one place more, in all of a shorter list, in a part of it
+pub front_none : {A : Type 0} (v : A) (t : List A) → with_front v 0 t ≡ t
+unfolding with_front
+front_none v t = refl
+
+pub front_more : {A : Type 0} (v : A) (n : ℕ) (t : List A) → n < length t → set (with_front v n t) n v ≡ with_front v (n + 1) t
+unfolding with_front
+front_more v n t h = rw add-one (set_next n t h)
+  where
+    set_next : (n : ℕ) (t : List _) → n < length t → set (with_front v n t) n v ≡ with_front v (suc n) t
+    set_next zero [] h = absurd (not-suc-le-zero h)
+    set_next zero (x ∷ t) h = refl
+    set_next (suc n) [] h = absurd (not-suc-le-zero h)
+    set_next (suc n) (x ∷ t) h = ap (λ (l : List _). v ∷ l) (set_next n t (le_of_suc-le-suc h))
+
+pub front_short : {A : Type 0} (v : A) (n : ℕ) (t : List A) → length t ≤ n → with_front v (length t) t ≡ with_front v n t
+unfolding with_front
+front_short v zero [] h = refl
+front_short v zero (x ∷ t) h = absurd (not-suc-le-zero h)
+front_short v (suc n) [] h = refl
+front_short v (suc n) (x ∷ t) h = ap (λ (l : List _). v ∷ l) (front_short v n t (le_of_suc-le-suc h))
+
+pub front_split : {A : Type 0} (v : A) (n : ℕ) (t : List A) → with_front v n (take n t) ++ drop n t ≡ with_front v n t
+unfolding with_front
+front_split v zero t = refl
+front_split v (suc n) [] = refl
+front_split v (suc n) (x ∷ t) = ap (λ (l : List _). v ∷ l) (front_split v n t)
+
+-- the places up to the length, or up to n where that is less
+pub front_least : {A : Type 0} (v : A) (n m : ℕ) (t : List A) → (n ≤ length t → m ≡ n) → (length t ≤ n → m ≡ length t)
+    → with_front v m t ≡ with_front v n t
+front_least v n m t short long = cases (dec_lt n (length t))
+  where
+    cases : Dec (n < length t) → with_front v m t ≡ with_front v n t
+    cases (yes l) = let e : m ≡ n = short (omega arith) in rw e
+    cases (no l) = let e : m ≡ length t = long (omega arith) in rw e (front_short v n t (omega arith))
+
 pub zeroed_none : (t : List ℕ) → zeroed 0 t ≡ t
-unfolding zeroed
-zeroed_none t = refl
+zeroed_none t = front_none 0 t
 
 pub zeroed_below : (n : ℕ) (t : List ℕ) (i : ℕ) → i < n → get_or (zeroed n t) i 0 ≡ 0
-unfolding zeroed
+unfolding with_front
 zeroed_below zero t i h = absurd (not-suc-le-zero h)
 zeroed_below (suc n) [] zero h = refl
 zeroed_below (suc n) [] (suc i) h = refl
@@ -43,7 +79,7 @@ zeroed_below (suc n) (x ∷ t) zero h = refl
 zeroed_below (suc n) (x ∷ t) (suc i) h = zeroed_below n t i (le_of_suc-le-suc h)
 
 pub zeroed_beyond : (n : ℕ) (t : List ℕ) (i : ℕ) → n ≤ i → get_or (zeroed n t) i 0 ≡ get_or t i 0
-unfolding zeroed
+unfolding with_front
 zeroed_beyond zero t i h = refl
 zeroed_beyond (suc n) [] i h = refl
 zeroed_beyond (suc n) (x ∷ t) zero h = absurd (not-suc-le-zero h)
@@ -51,26 +87,15 @@ zeroed_beyond (suc n) (x ∷ t) (suc i) h = zeroed_beyond n t i (le_of_suc-le-su
 
 -- one place more
 pub zeroed_more : (n : ℕ) (t : List ℕ) → n < length t → set (zeroed n t) n 0 ≡ zeroed (n + 1) t
-unfolding zeroed
-zeroed_more n t h = rw add-one (set_next n t h)
-  where
-    set_next : (n : ℕ) (t : List ℕ) → n < length t → set (zeroed n t) n 0 ≡ zeroed (suc n) t
-    set_next zero [] h = absurd (not-suc-le-zero h)
-    set_next zero (x ∷ t) h = refl
-    set_next (suc n) [] h = absurd (not-suc-le-zero h)
-    set_next (suc n) (x ∷ t) h = ap (λ (l : List ℕ). 0 ∷ l) (set_next n t (le_of_suc-le-suc h))
+zeroed_more n t h = front_more 0 n t h
 
 -- a table that is shorter is zero throughout
 pub zeroed_short : (n : ℕ) (t : List ℕ) → length t ≤ n → zeroed (length t) t ≡ zeroed n t
-unfolding zeroed
-zeroed_short zero [] h = refl
-zeroed_short zero (x ∷ t) h = absurd (not-suc-le-zero h)
-zeroed_short (suc n) [] h = refl
-zeroed_short (suc n) (x ∷ t) h = ap (λ (l : List ℕ). 0 ∷ l) (zeroed_short n t (le_of_suc-le-suc h))
+zeroed_short n t h = front_short 0 n t h
 
 pub drop_zeroed : (k n : ℕ) (t : List ℕ) → k ≤ n → n ≤ length t
     → drop k (zeroed n t) ≡ replicate (n - k) 0 ++ drop n t
-unfolding zeroed
+unfolding with_front
 drop_zeroed zero zero t h l = refl
 drop_zeroed (suc k) zero t h l = absurd (not-suc-le-zero h)
 drop_zeroed k (suc n) [] h l = absurd (not-suc-le-zero l)

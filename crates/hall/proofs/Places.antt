@@ -12,8 +12,7 @@ use native.Mathlib.Decide.{dec_lt}
 use native.Mathlib.Omega.{arith}
 use borrow.Author.Count.{below_more}
 use Rattle.hall.specs.declared.Refusal.{Refusal}
-use Rattle.hall.specs.declared.Checked.{Checked}
-use Rattle.hall.specs.declared.Checked.TheVariants.{Sound, Refused}
+use Rattle.std.specs.Prelude.{Result, Ok, Err}
 use Rattle.hall.specs.Stages.{Stage, Question, here, later, ClearAt, FirstAt, FirstIn, NoneIn}
 use Rattle.hall.specs.Stages.{FirstStage, First, None, once, only_at, at_each}
 use Rattle.hall.specs.Said.{accepted, refused, Judged}
@@ -158,7 +157,7 @@ loop_begins s = record { clear = λ p l. absurd (not-suc-le-zero l) }
 
 module _ {s : Stage} {i : ℕ} (passed : Passed s i) where
   -- the body finds nothing
-  pub loop_passes : {c : Checked} → c ≡ Sound → Judged (only_at i s) c → Passed s (i + 1)
+  pub loop_passes : {c : Result Unit Refusal} → c ≡ Ok tt → Judged (only_at i s) c → Passed s (i + 1)
   loop_passes e h =
       let clear = none_only_at s i (sound_none (only_at i s) e h) in
       record { clear = below_more (ClearAt s) i passed.clear clear }
@@ -168,7 +167,7 @@ module _ {s : Stage} {i : ℕ} (passed : Passed s i) where
 
 module _ {s : Stage} {i : ℕ} (passed : Passed s i) where
   -- the body refuses, of the stage itself
-  pub stage_refuses : {c : Checked} {r : Refusal} → c ≡ Refused r → Judged (only_at i s) c → Judged (s ∷ []) c
+  pub stage_refuses : {c : Result Unit Refusal} {r : Refusal} → c ≡ Err r → Judged (only_at i s) c → Judged (s ∷ []) c
   stage_refuses e h =
       let at = first_only_at s i (refused_first (only_at i s) e h) in
       rw e (rw at.0 (first_here (record { holds = at.1; lowest = passed.clear })))

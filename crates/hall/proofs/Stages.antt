@@ -16,8 +16,8 @@ use native.Mathlib.Nat.{not-suc-le-zero}
 use native.Mathlib.Decide.{dec_lt}
 use native.Mathlib.Omega.{arith}
 use borrow.Author.Count.{below_more}
-use Rattle.hall.specs.declared.Checked.{Checked}
-use Rattle.hall.specs.declared.Checked.TheVariants.{Sound, Refused}
+use Rattle.std.specs.Prelude.{Result, Ok, Err}
+use Rattle.hall.specs.declared.Refusal.{Refusal}
 use Rattle.hall.specs.Stages.{Stage, Question, here, later, ClearAt, FirstAt, FirstIn, NoneIn}
 use Rattle.hall.specs.Stages.{FirstStage, NoStage, First, None}
 use Rattle.hall.specs.Said.{Said, accepted, refused, Fits, Judged}
@@ -80,14 +80,14 @@ fits_unique q (accepted u) (refused n p) a b = absurd (none_excludes b a)
 fits_unique q (refused n p) (accepted u) a b = absurd (none_excludes a b)
 fits_unique q (refused n p) (refused m r) a b = let e = first_unique a b in λ i. refused (e.0 i) (e.1 i)
 
-pub judged_unique : (q : Question) (c d : Checked) → Judged q c → Judged q d → c ≡ d
-judged_unique q Sound Sound a b = refl
-judged_unique q Sound (Refused r) a b = absurd (none_excludes b a)
-judged_unique q (Refused r) Sound a b = absurd (none_excludes a b)
-judged_unique q (Refused r) (Refused t) a b =
+pub judged_unique : (q : Question) (c d : Result Unit Refusal) → Judged q c → Judged q d → c ≡ d
+judged_unique q (Ok u) (Ok v) a b = refl
+judged_unique q (Ok u) (Err r) a b = absurd (none_excludes b a)
+judged_unique q (Err r) (Ok u) a b = absurd (none_excludes a b)
+judged_unique q (Err r) (Err t) a b =
     let e = first_unique a b in
     let same = number_one_fault r.fault t.fault e.0 in
-    ap Refused (λ i. record { fault = same i; place = e.1 i })
+    ap Err (λ i. record { fault = same i; place = e.1 i })
 
 -- ---- there is an answer
 

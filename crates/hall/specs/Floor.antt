@@ -15,11 +15,13 @@
 --     Lane lanes a b      a lane of the list joins a and b, whichever of them stands first
 --     Network             a node count, a lane list and a list of closed nodes
 --     network_of           the network of lent numbers; the one place where a network is put together
+--     network_in           the network that is lent as a `Network` of src/
 --     Closed closed v     the number v stands in a list of closed nodes, at the place k
 --     Open N v            v is an open node of a network: nodes are numbered from 0, and it is not closed
 --     floor N             the floor of a network: its nodes are the open ones, and its lanes join them. A
 --                         lane to a closed node is in no walk, since a walk stands on both its ends
 use Rattle.std.specs.Prelude.{◌≡◌, ◌⊎◌, List, ℕ, zero, suc, ◌+◌, ◌*◌, ◌/◌, ◌≤◌, ◌<◌, length, get_or}
+use Rattle.hall.specs.declared.Network.{Network as Lent}
 use Rattle.hall.specs.Limits.{distance_limit, no_walk_mark}
 
 pub record Floor : Type 1 where
@@ -69,6 +71,9 @@ pub record Network : Type 0 where
 
 abbrev pub network_of : ℕ → (lanes closed : List ℕ) → Network
 network_of nodes lanes closed = record { nodes = nodes; lanes = lanes; closed = closed }
+
+abbrev pub network_in : Lent → Network
+network_in n = network_of n.nodes n.lanes.now n.closed.now
 
 pub record Closed (closed : List ℕ) (v : ℕ) : Type 0 where
   pub k : ℕ

@@ -5,12 +5,14 @@
 --                      lists carrier numbers by place; its dwell, the number of ticks that each carrier
 --                      stands on its goal after its goal tick (rule 1.9)
 --     job_of            the job of lent numbers; the one place where a job is put together
+--     job_in           the job that is lent as `JobNumbers` of src/
 --     carriers         how many carriers there are, which the length of the moves' list tells
 --     start, goal      the start and the goal of the carrier with a number
 --     at_place         the carrier number at a place in the order: the two kinds of number are kept apart
 --     EndsOn F moves   every start and every goal of the moves is a node of the floor
 use Rattle.std.specs.Prelude.{List, ℕ, ◌+◌, ◌*◌, ◌/◌, ◌<◌, length, get_or}
-use Rattle.hall.specs.Floor.{Floor, Network}
+use Rattle.hall.specs.declared.JobNumbers.{JobNumbers as Lent}
+use Rattle.hall.specs.Floor.{Floor, Network, network_in}
 
 abbrev pub move_count : List ℕ → ℕ
 move_count moves = length moves / 2
@@ -29,6 +31,9 @@ pub record Numbers : Type 0 where
 
 abbrev pub job_of : (N : Network) (moves order : List ℕ) (dwell : ℕ) → Numbers
 job_of N moves order dwell = record { network = N; moves = moves; order = order; dwell = dwell }
+
+abbrev pub job_in : Lent → Numbers
+job_in j = job_of (network_in j.network) j.moves.now j.order.now j.dwell
 
 abbrev pub carriers : Numbers → ℕ
 carriers j = move_count j.moves

@@ -1,6 +1,7 @@
 -- What is left in a lent table (rules 9.1 to 9.6, 9.9, 9.11 and 9.13 to 9.15).
---     zeroed n t     the table t with its first n places zero, all of them where it is shorter; beyond it is
---                    as it came
+--     with_front v n t   the list t with the value v in its first n places, in all of them where it is
+--                    shorter; beyond it is as it came
+--     zeroed n t     a table with its first n places zero
 --     filled         numbers in front of a table, zeros behind them up to its least length, and beyond it
 --                    what stood there. It is said of tables that have their least length
 --     left k n t     a table of least length n after the refusal with the number k: 9 leaves it as it came,
@@ -11,10 +12,13 @@
 use Rattle.std.specs.Prelude.{◌≡◌, List, [], ◌∷◌, ◌++◌, cond, ℕ, zero, suc, ◌-◌, ◌≤◌, ◌<◌, eqb, length, get_or, drop, replicate}
 use Rattle.hall.specs.Limits.{carrier_limit}
 
-unfoldable pub zeroed : ℕ → List ℕ → List ℕ
-zeroed zero t = t
-zeroed (suc n) [] = []
-zeroed (suc n) (x ∷ t) = 0 ∷ zeroed n t
+unfoldable pub with_front : {A : Type 0} → A → ℕ → List A → List A
+with_front v zero t = t
+with_front v (suc n) [] = []
+with_front v (suc n) (x ∷ t) = v ∷ with_front v n t
+
+abbrev pub zeroed : ℕ → List ℕ → List ℕ
+zeroed n t = with_front 0 n t
 
 unfoldable pub filled : (numbers : List ℕ) (least : ℕ) (table : List ℕ) → List ℕ
 filled numbers least table = numbers ++ (replicate (least - length numbers) 0 ++ drop least table)

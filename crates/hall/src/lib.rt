@@ -7,6 +7,8 @@ ghost use Rattle.std.specs.Prelude.{◌≡◌, get_or};
 ghost use Rattle.hall.specs.Numbers.{number_of};
 ghost use Rattle.hall.specs.Limits.{largest_job, empty_job};
 
+use std::fmt;
+
 pub mod zero;
 
 // The counts of a job and its dwell: what reading an accepted text answers.
@@ -72,6 +74,30 @@ impl Job {
     }
 }
 
+// A lane network as it is lent: how many nodes it has, its lanes, two numbers each, and its closed nodes.
+#[derive(Clone, Copy)]
+pub struct Network<'a> {
+    pub nodes: usize,
+    pub lanes: &'a [u16],
+    pub closed: &'a [u16],
+}
+
+// A job as it is lent: its network, its moves, a start and a goal by turns, its order and its dwell.
+#[derive(Clone, Copy)]
+pub struct JobNumbers<'a> {
+    pub network: Network<'a>,
+    pub moves: &'a [u16],
+    pub order: &'a [u16],
+    pub dwell: usize,
+}
+
+// Where a move begins and where it ends.
+#[derive(Clone, Copy)]
+pub struct Ends {
+    pub start: u16,
+    pub goal: u16,
+}
+
 // A place in the order: place 0 goes first.
 #[derive(Clone, Copy)]
 pub struct Place(pub usize);
@@ -86,33 +112,29 @@ impl Place {
     pub fn carrier(self, order: &[u16]) -> Carrier
         ensures { result.0 ≡ get_or order.now self.0 0 }
     {
-        let place = self.0;
-        if place < order.len() {
-            return Carrier(order[place]);
-        }
-        Carrier(0)
+        Carrier(order.get(self.0).copied().unwrap_or(0))
     }
 }
 
-// Why a question is refused: one variant for each refusal number in use, in order. 6 is not (rule 8.6).
+// Why a question is refused: one variant for each refusal number in use, with that number. 6 is not (rule 8.6).
 #[derive(Clone, Copy)]
 pub enum Fault {
-    Malformed,
-    BadCount,
-    BadLane,
-    NoNode,
-    SameEnds,
-    BadOrder,
-    Unreachable,
-    ShortTable,
-    NoCarrier,
-    NotShortest,
-    BadClosed,
-    ClosedEnd,
-    BadClock,
-    NoSlot,
-    BadBook,
-    StaleSlot,
+    Malformed = 1,
+    BadCount = 2,
+    BadLane = 3,
+    NoNode = 4,
+    SameEnds = 5,
+    BadOrder = 7,
+    Unreachable = 8,
+    ShortTable = 9,
+    NoCarrier = 10,
+    NotShortest = 11,
+    BadClosed = 12,
+    ClosedEnd = 13,
+    BadClock = 14,
+    NoSlot = 15,
+    BadBook = 16,
+    StaleSlot = 17,
 }
 
 impl Fault {
@@ -120,24 +142,7 @@ impl Fault {
     pub fn number(self) -> u8
         ensures { result ≡ number_of self }
     {
-        match self {
-            Fault::Malformed => 1,
-            Fault::BadCount => 2,
-            Fault::BadLane => 3,
-            Fault::NoNode => 4,
-            Fault::SameEnds => 5,
-            Fault::BadOrder => 7,
-            Fault::Unreachable => 8,
-            Fault::ShortTable => 9,
-            Fault::NoCarrier => 10,
-            Fault::NotShortest => 11,
-            Fault::BadClosed => 12,
-            Fault::ClosedEnd => 13,
-            Fault::BadClock => 14,
-            Fault::NoSlot => 15,
-            Fault::BadBook => 16,
-            Fault::StaleSlot => 17,
-        }
+        self as u8
     }
 }
 
@@ -152,16 +157,13 @@ impl Refusal {
     pub fn new(fault: Fault, place: usize) -> Self
         ensures { result ≡ record { fault = fault; place = place } }
     {
-        Refusal {
-            fault: fault,
-            place: place,
-        }
+        Refusal { fault, place }
     }
 }
 
-// What a check answers.
-#[derive(Clone, Copy)]
-pub enum Checked {
-    Sound,
-    Refused(Refusal),
+impl fmt::Display for Refusal {
+    fn fmt<W: fmt::Write>(&self, f: &mut fmt::Formatter<W>) -> fmt::Result {
+        let number = self.fault.number();
+        write!(f, "REFUSED {number} {}", self.place)
+    }
 }
