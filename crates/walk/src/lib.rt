@@ -32,12 +32,12 @@
 #![tactic(auto)]
 
 ghost use Rattle.std.specs.Prelude.{◌≤◌, ◌<◌, ◌≡◌, true, ◌++◌, length, replicate, drop};
-ghost use Rattle.hall.specs.Floor.{network_of, lanes_in};
+ghost use Rattle.hall.specs.Floor.{network_in, lanes_in};
 ghost use Rattle.walk.specs.Row.{RowServed, RowFilled, Rowed};
 ghost use Rattle.walk.specs.Sweep.{unreached_mark, Shut, Settled};
 ghost use Rattle.walk.specs.Sweep.{Greatest, Clean, Looked, OnlyFell, Sweepable, LanesSwept};
 
-use hall::Job;
+use hall::{Job, Network};
 
 // The label of an open node that is not reached: above the length of every walk, below the mark of a closed
 // node.
@@ -233,17 +233,19 @@ fn spread_near(nodes: usize, clean: bool, lanes: &[u16], row: &mut [u16])
 
 // The distance walk itself: rounds in a dense hall, then sweeps, there and back by turns, until the next one
 // has no lane. The answer is how many sweeps there were; it stands in the promise, and no caller needs it.
-fn reach(nodes: usize, lanes: &[u16], closed: &[u16], source: u16, row: &mut [u16]) -> usize
-    requires { RowServed (network_of nodes lanes.now closed.now) source row.old }
-    ensures { RowFilled (network_of nodes lanes.now closed.now) source
+fn reach(network: &Network, source: u16, row: &mut [u16]) -> usize
+    requires { RowServed (network_in network.now) source row.old }
+    ensures { RowFilled (network_in network.now) source
         row.old row.new
-        × (result ≤ nodes) }
+        × (result ≤ network.now.nodes) }
 {
+    let nodes = network.nodes;
+    let lanes = network.lanes;
     let place = source as usize;
     let top = greatest(lanes) as usize;
     let clean = top < nodes;
     blank(nodes, row);
-    shut(nodes, closed, row);
+    shut(nodes, network.closed, row);
     if row[place] == UNREACHED {
         row[place] = 0;
     }
@@ -261,10 +263,11 @@ fn reach(nodes: usize, lanes: &[u16], closed: &[u16], source: u16, row: &mut [u1
 }
 
 // The distances from the source, one place of the row a node; whether they were worked out.
-pub fn distances(nodes: usize, lanes: &[u16], closed: &[u16], source: u16, row: &mut [u16]) -> bool
-    ensures { Rowed (network_of nodes lanes.now closed.now) source
+pub fn distances(network: &Network, source: u16, row: &mut [u16]) -> bool
+    ensures { Rowed (network_in network.now) source
         row.old row.new result }
 {
+    let nodes = network.nodes;
     let first = source as usize;
     let places = row.len();
     if nodes > Job::NODES {
@@ -276,6 +279,6 @@ pub fn distances(nodes: usize, lanes: &[u16], closed: &[u16], source: u16, row: 
     if nodes > places {
         return false;
     }
-    reach(nodes, lanes, closed, source, row);
+    reach(network, source, row);
     true
 }

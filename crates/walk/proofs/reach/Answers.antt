@@ -1,7 +1,7 @@
 -- Marks and rounds leave the row before the first sweep, each sweep goes on from the one before it, and
 -- after the last the row is filled, once what is not reached has the mark for "no walk".
 use Rattle.std.proofs.Common.{arith}
-use Rattle.hall.specs.Floor.{Network, network_of}
+use Rattle.hall.specs.Floor.{Network, network_in}
 use Rattle.walk.proofs.WalkBegun.{Begun, begun_open, begun_closed, Unswept, unswept_spread}
 use Rattle.walk.proofs.WalkGreatest.{clean_greatest}
 use Rattle.walk.proofs.WalkReach.{walking_first, walking_swept, walking_done}
@@ -9,11 +9,11 @@ use Rattle.walk.proofs.reach.Goals as goal
 use Rattle.walk.proofs.reach.Goals.{then-row-place, else-row-place}
 
 pub spread_near-requires : goal.spread_near-requires
-spread_near-requires c = (clean_greatest c.args.nodes c.args.lanes.now c.greatest-top.ensures, omega arith)
+spread_near-requires c = (clean_greatest c.args.network.now.nodes c.args.network.now.lanes.now c.greatest-top.ensures, omega arith)
 
 pub loop-todo-init : goal.loop-todo-init
 loop-todo-init c =
-    let network : Network = network_of c.args.nodes c.args.lanes.now c.args.closed.now in
+    let network : Network = network_in c.args.network.now in
     let begun : Begun network c.args.source c.args.row.now c.if-row-place.row = elim c.if-row-place.branch [
       | then-row-place w ↦ rw w.row-is (begun_open network c.args.row.now c.requires.wide c.blank.ensures c.shut.ensures c.args.source c.requires.numbered w.if-row-place.true)
       | else-row-place w ↦ rw w.row-is (begun_closed network c.args.row.now c.requires.wide c.blank.ensures c.shut.ensures c.args.source w.if-row-place.false)
@@ -22,7 +22,7 @@ loop-todo-init c =
     (walking_first c.requires unswept, unswept)
 
 pub sweep-todo-requires : goal.sweep-todo-requires
-sweep-todo-requires c = (clean_greatest c.args.nodes c.args.lanes.now c.greatest-top.ensures, c.loop-todo.invariant.0.sweepable)
+sweep-todo-requires c = (clean_greatest c.args.network.now.nodes c.args.network.now.lanes.now c.greatest-top.ensures, c.loop-todo.invariant.0.sweepable)
 
 pub overflow_add-sweeps : goal.overflow_add-sweeps
 overflow_add-sweeps c = omega (arith, c.loop-todo.invariant.0.few, c.requires.few)
