@@ -19,8 +19,7 @@ use lib.Seq.{get_or-take, take-suc-set}
 use Rattle.hall.specs.declared.Fault.TheVariants.{Malformed}
 use Rattle.hall.specs.Numbers.{number_of}
 use Rattle.hall.specs.declared.Refusal.{Refusal}
-use Rattle.hall.specs.declared.Checked.{Checked}
-use Rattle.hall.specs.declared.Checked.TheVariants.{Sound}
+use Rattle.std.specs.Prelude.{Result, Ok, Err}
 use Rattle.hall.specs.Stages.{Stage, ClearAt, FirstAt, only_at, at_each}
 use Rattle.hall.specs.Said.{Judged}
 use Rattle.hall.proofs.Compose.{refused_first, sound_none}
@@ -106,13 +105,13 @@ module _ (F : Form) (text : List ℕ) (read : List Content) (s : Section) (n : �
             same : SameAt here (checks_of s.entry read after) k
             same = each_same (checks_of s.entry read after) places k among
 
-            pub checked_entry : {c : Checked} → c ≡ Sound → Judged (only_at k here) c
+            pub checked_entry : {c : Result Unit Refusal} → c ≡ Ok tt → Judged (only_at k here) c
                 → Collected F text read s n left (suc k) after e.rest (suc line)
             checked_entry z judged =
                 filled_entry (same_clear here (checks_of s.entry read after) k same
                 (none_only_at here k (sound_none (only_at k here) z judged)))
 
-            pub checked_refused : {c : Checked} {r : Refusal} → c ≡ Checked.Refused r
+            pub checked_refused : {c : Result Unit Refusal} {r : Refusal} → c ≡ Err r
                 → Judged (only_at k here) c → Refused F text (number_of r.fault) line
             checked_refused {r = r} z judged =
                 filled_refused (number_of r.fault)
