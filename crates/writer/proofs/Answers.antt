@@ -9,10 +9,9 @@ use mathlib.Core.List.{List}
 use Prim.Native.Nat.{ℕ, ◌-◌, ◌≤◌, ◌<◌}
 use native.Mathlib.Omega.{arith}
 use lib.ListN.{length, replicate}
+use Rattle.std.proofs.Common.{Result, Ok, Err}
 use Rattle.hall.specs.declared.Fault.TheVariants.{ShortTable}
 use Rattle.hall.specs.declared.Refusal.{Refusal}
-use Rattle.hall.specs.declared.Checked.{Checked}
-use Rattle.hall.specs.declared.Checked.TheVariants.{Sound, Refused}
 use Rattle.hall.specs.Limits.{text_room}
 use Rattle.hall.specs.Job.{Numbers}
 use Rattle.hall.specs.Numbers.{number_of}
@@ -39,11 +38,11 @@ module _ (j : Numbers) (out : List ℕ) where
   pub short_refused : length out < text_room → Writing j out out (refused (number_of ShortTable) 0)
   short_refused short = record { first = asked_here short; output_left = refl }
 
-  module _ (room : text_room ≤ length out) (c : Checked) (judged : Judged (checks_question j) c) where
+  module _ (room : text_room ≤ length out) (c : Result Unit Refusal) (judged : Judged (checks_question j) c) where
     long : ¬ (length out < text_room)
     long h = omega arith
 
-    pub job_refused : {r : Refusal} {out' : List ℕ} → c ≡ Refused r →
+    pub job_refused : {r : Refusal} {out' : List ℕ} → c ≡ Err r →
         out' ≡ overwritten 0 (replicate (text_room - 0) 0) out → Writing j out out' (said_refusal r)
     job_refused told zeros =
         let first = refused_first (checks_question j) told judged in
@@ -53,7 +52,7 @@ module _ (j : Numbers) (out : List ℕ) where
           output_left = blank ∙ filled_none text_room out room ∙ sym (left_zeroed (omega arith) first text_room out);
         }
 
-    pub job_written : {out₁ out₂ : List ℕ} {r : ℕ} → c ≡ Sound →
+    pub job_written : {out₁ out₂ : List ℕ} {r : ℕ} → c ≡ Ok tt →
         Put out 0 (text_of j) out₁ r → out₂ ≡ overwritten r (replicate (text_room - r) 0) out₁ →
         Writing j out out₂ (accepted r)
     job_written told puts zeros =

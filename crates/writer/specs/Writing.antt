@@ -10,19 +10,18 @@
 --     NotWritten      the refusal is the first fault: 9 leaves the output as it came, any other number zeroes
 --                     its 47,142 bytes
 --     Writing         the promise: what is left with what is said
-use Rattle.std.specs.Prelude.{◌≡◌, List, ℕ, ◌<◌, length}
+use Rattle.std.specs.Prelude.{◌≡◌, List, ℕ, ◌<◌, Result, length}
+use Rattle.hall.specs.declared.Refusal.{Refusal}
 use Rattle.hall.specs.Limits.{text_room}
 use Rattle.hall.specs.Job.{Numbers}
 use Rattle.hall.specs.Stages.{First, None}
-use Rattle.hall.specs.Said.{Said, accepted, refused, said_refusal}
+use Rattle.hall.specs.Said.{Said, accepted, refused, said}
 use Rattle.hall.specs.Questions.{writing}
 use Rattle.hall.specs.Left.{filled, left}
 use Rattle.form.specs.Jobs.{text_of}
-use Rattle.writer.specs.declared.Written.{Written}
 
-abbrev pub said_written : Written → Said ℕ
-said_written (Written.Bytes size) = accepted size
-said_written (Written.Refused r) = said_refusal r
+abbrev pub said_written : Result ℕ Refusal → Said ℕ
+said_written = said (λ size. size)
 
 module _ (j : Numbers) (out out' : List ℕ) where
   pub record JobWritten (size : ℕ) : Type 0 where

@@ -10,8 +10,7 @@
 // lanes is a fault of their count.
 #![tactic(auto)]
 
-ghost use Rattle.hall.specs.Floor.{network_of};
-ghost use Rattle.hall.specs.Job.{job_of};
+ghost use Rattle.hall.specs.Job.{job_in};
 ghost use Rattle.put.specs.Digits.{field};
 ghost use Rattle.put.specs.Putting.{Put};
 ghost use Rattle.form.specs.Lines.{count_line, entry_lines};
@@ -19,15 +18,8 @@ ghost use Rattle.form.specs.Contents.{written};
 ghost use Rattle.form.specs.Jobs.{pairs, singles, closed_contents, dwell_contents, text_of};
 ghost use Rattle.writer.specs.Writing.{said_written, Writing};
 
-use hall::{Checked, Fault, Job, Refusal};
+use hall::{Fault, Job, JobNumbers, Refusal};
 use network::checks::check_job;
-
-// How many bytes the text has, or the first refusal.
-#[derive(Drop)]
-pub enum Written {
-    Bytes(usize),
-    Refused(Refusal),
-}
 
 // ---- lines
 
@@ -114,30 +106,19 @@ fn put_dwell(dwell: usize, out: &mut [u8], at: usize) -> usize
 }
 
 // The sections in their order, at the front of the output.
-fn put_job(
-    nodes: usize,
-    lanes: &[u16],
-    closed: &[u16],
-    moves: &[u16],
-    order: &[u16],
-    dwell: usize,
-    out: &mut [u8],
-) -> usize
-    ensures { Put
-        out.old 0
-        (text_of (job_of (network_of nodes lanes.now closed.now)
-        moves.now order.now dwell))
-        out.new result }
+fn put_job(job: &JobNumbers, out: &mut [u8]) -> usize
+    ensures { Put out.old 0 (text_of (job_in job.now)) out.new result }
 {
-    let lanes_line = put_count(b"NODES", nodes, out, 0);
-    let first_lane = put_count(b"LANES", lanes.len() / 2, out, lanes_line);
-    let closed_line = put_pairs(lanes, out, first_lane);
-    let carriers_line = put_closed_nodes(closed, out, closed_line);
-    let first_carrier = put_count(b"CARRIERS", moves.len() / 2, out, carriers_line);
-    let order_line = put_pairs(moves, out, first_carrier);
-    let first_place = put_count(b"ORDER", order.len(), out, order_line);
-    let dwell_line = put_singles(order, out, first_place);
-    put_dwell(dwell, out, dwell_line)
+    let network = &job.network;
+    let lanes_line = put_count(b"NODES", network.nodes, out, 0);
+    let first_lane = put_count(b"LANES", network.lanes.len() / 2, out, lanes_line);
+    let closed_line = put_pairs(network.lanes, out, first_lane);
+    let carriers_line = put_closed_nodes(network.closed, out, closed_line);
+    let first_carrier = put_count(b"CARRIERS", job.moves.len() / 2, out, carriers_line);
+    let order_line = put_pairs(job.moves, out, first_carrier);
+    let first_place = put_count(b"ORDER", job.order.len(), out, order_line);
+    let dwell_line = put_singles(job.order, out, first_place);
+    put_dwell(job.dwell, out, dwell_line)
 }
 
 // ---- the question
@@ -146,30 +127,17 @@ fn put_job(
 // front of `out`, zeros follow up to 47,142 bytes, and what lies beyond is not touched; whoever hands the
 // text on hands on so many bytes as the answer says. 9 leaves `out` as it came, any other refusal zeroes the
 // 47,142. The moves are a start and a goal by turns, and an odd last number is not written.
-pub fn write_numbers(
-    nodes: usize,
-    lanes: &[u16],
-    closed: &[u16],
-    moves: &[u16],
-    order: &[u16],
-    dwell: usize,
-    out: &mut [u8],
-) -> Written
-    ensures { Writing
-        (job_of (network_of nodes lanes.now closed.now)
-        moves.now order.now dwell)
-        out.old out.new
-        (said_written result) }
+pub fn write_numbers(job: &JobNumbers, out: &mut [u8]) -> Result<usize, Refusal>
+    ensures { Writing (job_in job.now) out.old out.new (said_written result) }
 {
     if out.len() < Job::TEXT_BYTES {
-        return Written::Refused(Refusal::new(Fault::ShortTable, 0));
+        return Err(Refusal::new(Fault::ShortTable, 0));
     }
-    let checked = check_job(nodes, lanes, closed, moves, order, dwell);
-    if let Checked::Refused(refusal) = checked {
+    if let Err(refusal) = check_job(job) {
         put::zero_rest(out, 0, Job::TEXT_BYTES);
-        return Written::Refused(refusal);
+        return Err(refusal);
     }
-    let size = put_job(nodes, lanes, closed, moves, order, dwell, out);
+    let size = put_job(job, out);
     put::zero_rest(out, size, Job::TEXT_BYTES);
-    Written::Bytes(size)
+    Ok(size)
 }
