@@ -9,22 +9,18 @@
 // distances and ticks of 64.
 #![tactic(auto)]
 
-ghost use Rattle.hall.specs.Floor.{network_of};
+ghost use Rattle.hall.specs.Floor.{network_in};
 ghost use Rattle.recorded.specs.Reading.{ReadLeft};
 ghost use Rattle.recorded.specs.Writing.{RecordWriting};
 ghost use Rattle.recorded.specs.Planning.{RecordPlanning};
 ghost use Rattle.recorded.specs.Asking.{HouseOfRecords, ListOfRecords};
 
-use hall::{Carrier, Checked, Job};
-use path::Housed;
-use planner::Planned;
-use reader::Read;
+use hall::{Carrier, Job, JobNumbers, Network, Refusal};
 use recorded::{
     LOADED_NUMBERS, house_loaded, judge_loaded, placed_count, plan_loaded, read_beside,
     stored_count, write_loaded,
 };
 use records::{Record, load_moves, store_moves, store_times};
-use writer::Written;
 
 // ---- reading
 
@@ -37,7 +33,7 @@ pub fn read_job(
     closed: &mut [u16],
     records: &mut [Record],
     order: &mut [u16],
-) -> Read
+) -> Result<Job, Refusal>
     ensures { ReadLeft
         text.now text.now
         lanes.old lanes.new
@@ -57,17 +53,15 @@ pub fn read_job(
 // Writes a job as its text, to the front of an output of 47,142 bytes at least; answers how many bytes the
 // text has, or the first refusal. What is left in the output is as `writer::write_numbers` leaves it.
 pub fn write_job(
-    nodes: usize,
-    lanes: &[u16],
-    closed: &[u16],
+    network: &Network,
     records: &[Record],
     order: &[u16],
     dwell: usize,
     out: &mut [u8],
-) -> Written
+) -> Result<usize, Refusal>
     ensures { RecordWriting
-        (network_of nodes lanes.now closed.now)
-        (network_of nodes lanes.now closed.now)
+        (network_in network.now)
+        (network_in network.now)
         records.now records.now
         order.now order.now
         dwell
@@ -76,16 +70,13 @@ pub fn write_job(
 {
     let mut moves = [0u16; LOADED_NUMBERS];
     load_moves(records, &mut moves);
-    write_loaded(
-        nodes,
-        lanes,
-        closed,
-        records.len(),
-        &moves,
+    let job = JobNumbers {
+        network: *network,
+        moves: &moves,
         order,
         dwell,
-        out,
-    )
+    };
+    write_loaded(&job, records.len(), out)
 }
 
 // ---- planning
@@ -93,17 +84,15 @@ pub fn write_job(
 // Plans a job: fills the distance table and, in the records, each carrier's distance and start tick; answers
 // the cost, or the first refusal.
 pub fn plan(
-    nodes: usize,
-    lanes: &[u16],
-    closed: &[u16],
+    network: &Network,
     records: &mut [Record],
     order: &[u16],
     dwell: usize,
     table: &mut [u16],
-) -> Planned
+) -> Result<u32, Refusal>
     ensures { RecordPlanning
-        (network_of nodes lanes.now closed.now)
-        (network_of nodes lanes.now closed.now)
+        (network_in network.now)
+        (network_in network.now)
         records.old records.new
         order.now order.now
         dwell
@@ -115,18 +104,13 @@ pub fn plan(
     let mut ticks = [0u32; Job::CARRIERS];
     let n = records.len();
     load_moves(records, &mut moves);
-    let answer = plan_loaded(
-        nodes,
-        lanes,
-        closed,
-        n,
-        &moves,
+    let job = JobNumbers {
+        network: *network,
+        moves: &moves,
         order,
         dwell,
-        table,
-        &mut distances,
-        &mut ticks,
-    );
+    };
+    let answer = plan_loaded(&job, n, table, &mut distances, &mut ticks);
     let count = stored_count(answer, n);
     store_times(records, count, &distances, &ticks);
     answer
@@ -137,18 +121,16 @@ pub fn plan(
 // The house path of one carrier of a job, into a list of 1,024 places at least; answers how many nodes it
 // has, or the first refusal.
 pub fn house(
-    nodes: usize,
-    lanes: &[u16],
-    closed: &[u16],
+    network: &Network,
     records: &[Record],
     order: &[u16],
     dwell: usize,
     carrier: Carrier,
     path: &mut [u16],
-) -> Housed
+) -> Result<usize, Refusal>
     ensures { HouseOfRecords
-        (network_of nodes lanes.now closed.now)
-        (network_of nodes lanes.now closed.now)
+        (network_in network.now)
+        (network_in network.now)
         records.now records.now
         order.now order.now
         dwell
@@ -158,33 +140,27 @@ pub fn house(
 {
     let mut moves = [0u16; LOADED_NUMBERS];
     load_moves(records, &mut moves);
-    house_loaded(
-        nodes,
-        lanes,
-        closed,
-        records.len(),
-        &moves,
+    let job = JobNumbers {
+        network: *network,
+        moves: &moves,
         order,
         dwell,
-        carrier,
-        path,
-    )
+    };
+    house_loaded(&job, records.len(), carrier, path)
 }
 
 // Whether a proposed list is a shortest path of one carrier of a job.
 pub fn judge(
-    nodes: usize,
-    lanes: &[u16],
-    closed: &[u16],
+    network: &Network,
     records: &[Record],
     order: &[u16],
     dwell: usize,
     carrier: Carrier,
     list: &[u16],
-) -> Checked
+) -> Result<(), Refusal>
     ensures { ListOfRecords
-        (network_of nodes lanes.now closed.now)
-        (network_of nodes lanes.now closed.now)
+        (network_in network.now)
+        (network_in network.now)
         records.now records.now
         order.now order.now
         dwell
@@ -194,15 +170,11 @@ pub fn judge(
 {
     let mut moves = [0u16; LOADED_NUMBERS];
     load_moves(records, &mut moves);
-    judge_loaded(
-        nodes,
-        lanes,
-        closed,
-        records.len(),
-        &moves,
+    let job = JobNumbers {
+        network: *network,
+        moves: &moves,
         order,
         dwell,
-        carrier,
-        list,
-    )
+    };
+    judge_loaded(&job, records.len(), carrier, list)
 }

@@ -7,12 +7,12 @@ use mathlib.Core.Path.{refl}
 use mathlib.Core.List.{List}
 use Prim.Native.Nat.{ℕ}
 use lib.ListN.{length}
-use Rattle.hall.specs.declared.Checked.{Checked}
+use Rattle.std.proofs.Common.{Result}
+use Rattle.hall.specs.declared.Refusal.{Refusal}
 use Rattle.hall.specs.Floor.{Network}
 use Rattle.hall.specs.Job.{job_of}
 use Rattle.records.specs.declared.Record.{Record}
 use Rattle.records.specs.Table.{moved}
-use Rattle.path.specs.declared.Housed.{Housed}
 use Rattle.path.specs.Paths.{said_housed}
 use Rattle.asks.proofs.Crowded.{crowded_house, crowded_list}
 use Rattle.recorded.specs.Asking.{RecordsKept, HouseGiven, ListGiven, HouseOfRecords, ListOfRecords}
@@ -23,7 +23,7 @@ module _ (N : Network) (rs : List Record) (order : List ℕ) (dwell c : ℕ) whe
   kept : RecordsKept N N rs rs order order
   kept = record { network_kept = refl; records_kept = refl; order_kept = refl }
 
-  pub records_housed : (path path' : List ℕ) (r : Housed) →
+  pub records_housed : (path path' : List ℕ) (r : Result ℕ Refusal) →
       HouseGiven (job_of N (loaded (length rs) (moved rs zeros130)) order dwell) c path path' r →
       HouseOfRecords N N rs rs order order dwell c path path' r
   records_housed path path' r a = record {
@@ -33,7 +33,7 @@ module _ (N : Network) (rs : List Record) (order : List ℕ) (dwell c : ℕ) whe
     kept = kept;
   }
 
-  pub records_judged : (list : List ℕ) (r : Checked) →
+  pub records_judged : (list : List ℕ) (r : Result Unit Refusal) →
       ListGiven (job_of N (loaded (length rs) (moved rs zeros130)) order dwell) c list r →
       ListOfRecords N N rs rs order order dwell c list list r
   records_judged list r a = record {

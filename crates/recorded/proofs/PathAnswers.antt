@@ -12,8 +12,8 @@ use mathlib.Core.Path.{◌≡◌}
 use mathlib.Core.List.{List, [], ◌∷◌}
 use Prim.Native.Nat.{ℕ}
 use lib.ListN.{take}
-use Rattle.hall.specs.declared.Checked.{Checked}
-use Rattle.hall.specs.declared.Checked.TheVariants.{Sound}
+use Rattle.std.proofs.Common.{Result, Ok, tt}
+use Rattle.hall.specs.declared.Refusal.{Refusal}
 use Rattle.hall.specs.Floor.{Network, floor}
 use Rattle.hall.specs.Job.{Numbers, start, goal}
 use Rattle.hall.specs.Path.{ShortestPath}
@@ -23,7 +23,6 @@ use Rattle.hall.proofs.Stages.{judged_unique}
 use Rattle.hall.proofs.Compose.{none_split, none_append, none_at_all}
 use Rattle.hall.proofs.Places.{none_asked, asked_clear}
 use Rattle.records.specs.declared.Record.{Record}
-use Rattle.path.specs.declared.Housed.TheVariants.{Nodes}
 use Rattle.path.specs.Paths.{Unfit, NodeByNode}
 use Rattle.path.proofs.Agree.{house_first}
 use Rattle.path.proofs.Listed.{none_passes}
@@ -44,25 +43,25 @@ module _ (N : Network) (records : List Record) (order : List ℕ) (dwell c : ℕ
   -- ---- the question about one list
 
   module _ (M : Network) (rs : List Record) (o list list' : List ℕ) where
-    pub sound_none : ListOfRecords N M records rs order o dwell c list list' Sound → None (asked_question j c)
+    pub sound_none : ListOfRecords N M records rs order o dwell c list list' (Ok tt) → None (asked_question j c)
     sound_none a = (none_split (asked_question j c) (unfit (unfitFor list) ∷ []) a.given).0
 
-    pub sound_shortest : ListOfRecords N M records rs order o dwell c list list' Sound → Shortest list
+    pub sound_shortest : ListOfRecords N M records rs order o dwell c list list' (Ok tt) → Shortest list
     sound_shortest a =
         (none_passes N (start j c) (goal j c) list
         (none_append (move_sound j c (sound_none a)) (none_split (asked_question j c) (unfit (unfitFor list) ∷ []) a.given).1)
         ).shortest
 
-    pub shortest_sound : (r : Checked) → None (asked_question j c) → Shortest list →
-        ListOfRecords N M records rs order o dwell c list list' r → r ≡ Sound
+    pub shortest_sound : (r : Result Unit Refusal) → None (asked_question j c) → Shortest list →
+        ListOfRecords N M records rs order o dwell c list list' r → r ≡ Ok tt
     shortest_sound r none s a =
-        judged_unique (list_of_job j c (unfitFor list)) r Sound a.given
+        judged_unique (list_of_job j c (unfitFor list)) r (Ok tt) a.given
         (none_append none (asked_clear (λ u. u s) none_at_all))
 
   -- ---- the house path
 
   module _ (M : Network) (rs : List Record) (o path path' : List ℕ) (count : ℕ)
-      (a : HouseOfRecords N M records rs order o dwell c path path' (Nodes count)) where
+      (a : HouseOfRecords N M records rs order o dwell c path path' (Ok count)) where
     pub house_shortest : Shortest (take count path')
     house_shortest =
         let house = a.given.1.is_house_path in
@@ -71,7 +70,7 @@ module _ (N : Network) (records : List Record) (order : List ℕ) (dwell c : ℕ
     pub house_least : (other : List ℕ) → Shortest other → NodeByNode (take count path') other
     house_least other s = house_first a.given.1.is_house_path s
 
-    pub house_sound : (O : Network) (qs : List Record) (p list' : List ℕ) (r : Checked) →
-        ListOfRecords N O records qs order p dwell c (take count path') list' r → r ≡ Sound
+    pub house_sound : (O : Network) (qs : List Record) (p list' : List ℕ) (r : Result Unit Refusal) →
+        ListOfRecords N O records qs order p dwell c (take count path') list' r → r ≡ Ok tt
     house_sound O qs p list' r b =
         shortest_sound O qs p (take count path') list' r (none_asked a.given.0).1 house_shortest b

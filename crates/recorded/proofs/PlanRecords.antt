@@ -11,6 +11,8 @@ use Prim.Native.Nat.{ℕ, ◌≤◌, ◌<◌}
 use native.Mathlib.Decide.{dec_lt}
 use native.Mathlib.Omega.{arith}
 use lib.ListN.{length, get_or, replicate, length-replicate, get_or-eq_default}
+use Rattle.std.proofs.Common.{Result, Ok, Err}
+use Rattle.hall.specs.declared.Refusal.{Refusal}
 use Rattle.hall.specs.Limits.{carrier_limit, table_length}
 use Rattle.hall.specs.Floor.{Network}
 use Rattle.hall.specs.Job.{Numbers, job_of, move_count}
@@ -21,8 +23,6 @@ use Rattle.records.specs.declared.Record.{Record}
 use Rattle.records.specs.Table.{blank, record_at, with_times, moved, timed}
 use Rattle.records.proofs.Lists.{timed_length}
 use Rattle.records.proofs.Laws.{moves_count, timed_at, timed_past}
-use Rattle.planner.specs.declared.Planned.{Planned}
-use Rattle.planner.specs.declared.Planned.TheVariants.{Cost, Refused}
 use Rattle.planner.specs.Planning.{said_planned, lent, Short, table_is_short, short_distances, short_ticks}
 use Rattle.planner.specs.Planning.{NumbersPlanned, NumbersRefused, Planning}
 use Rattle.planner.proofs.Faults.{none_checked}
@@ -101,17 +101,17 @@ module _ (N : Network) (rs : List Record) (order : List ℕ) (dwell : ℕ)
     table_left = a.table_left;
   }
 
-  given_records : (r : Planned) → Planning j (lent table zeros64 zeros64) (lent table' ds ks) (said_planned r) →
+  given_records : (r : Result ℕ Refusal) → Planning j (lent table zeros64 zeros64) (lent table' ds ks) (said_planned r) →
       GivenRecords j rs (timed (stored_count r (length rs)) rs ds ks) table table' (said_planned r)
-  given_records (Cost c) a = records_accepted c a
-  given_records (Refused r) a = records_refused _ _ a
+  given_records (Ok c) a = records_accepted c a
+  given_records (Err r) a = records_refused _ _ a
 
   -- planning from the numbers of some moves
-  abbrev PlannedOf : Planned → List ℕ → Type 0
+  abbrev PlannedOf : Result ℕ Refusal → List ℕ → Type 0
   PlannedOf r ms =
       Planning (job_of N ms order dwell) (lent table zeros64 zeros64) (lent table' ds ks) (said_planned r)
 
-  pub records_planned : (rs' : List Record) (r : Planned) →
+  pub records_planned : (rs' : List Record) (r : Result ℕ Refusal) →
       PlannedOf r (loaded (length rs) (moved rs zeros130)) →
       rs' ≡ timed (stored_count r (length rs)) rs ds ks →
       RecordPlanning N N rs rs' order order dwell table table' r

@@ -15,7 +15,9 @@ use native.Mathlib.Nat.{not-suc-le-zero}
 use native.Mathlib.Omega.{arith}
 use borrow.Author.Tests.{ne_eqb}
 use lib.ListN.{length, drop, replicate, length-replicate, drop_of_length-le}
+use Rattle.std.proofs.Common.{Result}
 use Rattle.hall.specs.declared.Job.{Job}
+use Rattle.hall.specs.declared.Refusal.{Refusal}
 use Rattle.hall.specs.Job.{carriers}
 use Rattle.hall.specs.Said.{Said, accepted, refused}
 use Rattle.hall.specs.Left.{filled}
@@ -25,7 +27,6 @@ use Rattle.records.specs.declared.Record.{Record}
 use Rattle.records.specs.Table.{blank, fresh, placed}
 use Rattle.records.proofs.Lists.{two_more}
 use Rattle.form.proofs.JobTexts.{refused_with}
-use Rattle.reader.specs.declared.Read.{Read}
 use Rattle.reader.specs.Reading.{said_read, AnyShort, Reason, short, faulty, AcceptedAs, RefusedWith}
 use Rattle.recorded.specs.Reading.{RecordsShort, LentShort, records_of, filled_records, left_records}
 use Rattle.recorded.specs.Reading.{JobAccepted, JobRefused, GivenJob, ReadLeft}
@@ -164,6 +165,6 @@ module _ (text lanes closed : List ℕ) (records : List Record) (order lanes' cl
         order_left = o;
       })
 
-  pub records_read : (r : Read) → Beside text lanes closed (length records) zeros order lanes' closed' moves' order' (said_read r)
+  pub records_read : (r : Result Job Refusal) → Beside text lanes closed (length records) zeros order lanes' closed' moves' order' (said_read r)
       → ReadLeft text text lanes lanes' closed closed' records records' order order' r
   records_read r x = record { given = given (said_read r) x; text_kept = refl }

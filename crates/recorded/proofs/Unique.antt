@@ -13,7 +13,9 @@ use Prim.Native.Nat.{ℕ, ◌≤◌, ◌<◌}
 use native.Mathlib.Omega.{arith}
 use lib.ListN.{length}
 use lib.Seq.{ext_get_or}
-use Rattle.hall.specs.declared.Checked.{Checked}
+use Rattle.std.proofs.Common.{Result, Ok, Err}
+use Rattle.hall.specs.declared.Job.{Job}
+use Rattle.hall.specs.declared.Refusal.{Refusal}
 use Rattle.hall.specs.Limits.{node_limit, table_length}
 use Rattle.hall.specs.Numbers.{number_of}
 use Rattle.hall.specs.Floor.{Network}
@@ -33,17 +35,12 @@ use Rattle.records.specs.Table.{blank, record_at}
 use Rattle.records.proofs.Laws.{moves_count}
 use Rattle.tables.specs.Filling.{TableFilled}
 use Rattle.tables.proofs.Unique.{filling_unique}
-use Rattle.reader.specs.declared.Read.{Read}
 use Rattle.reader.specs.Reading.{said_read}
 use Rattle.reader.proofs.Unique.{said_read_one}
-use Rattle.path.specs.declared.Housed.{Housed}
 use Rattle.path.specs.Paths.{Unfit}
 use Rattle.path.proofs.Unique.{left_unique}
-use Rattle.planner.specs.declared.Planned.{Planned}
-use Rattle.planner.specs.declared.Planned.TheVariants.{Cost, Refused}
 use Rattle.planner.specs.Planning.{said_planned}
 use Rattle.planner.proofs.Outcome.{filling_served}
-use Rattle.writer.specs.declared.Written.{Written}
 use Rattle.writer.proofs.Unique.{writing_unique}
 use Rattle.recorded.specs.Job.{record_job}
 use Rattle.recorded.specs.Reading.{ReadLeft}
@@ -55,7 +52,7 @@ use Rattle.recorded.proofs.ReadExactly.{reading_unique}
 
 -- ---- reading
 
-module _ (text lanes closed : List ℕ) (records : List Record) (order : List ℕ) (r s : Read)
+module _ (text lanes closed : List ℕ) (records : List Record) (order : List ℕ) (r s : Result Job Refusal)
     (t u l m cs ds : List ℕ) (rs qs : List Record) (o p : List ℕ) where
   pub read_job_unique : ReadLeft text t lanes l closed cs records rs order o r
       → ReadLeft text u lanes m closed ds records qs order p s
@@ -124,19 +121,19 @@ module _ (N : Network) (records : List Record) (order : List ℕ) (dwell : ℕ) 
         a.table_left ∙ ap (λ (k : ℕ). left k table_length table) e.0 ∙ sym b.table_left,
       )
 
-  given_unique : (rs qs : List Record) (t u : List ℕ) (r s : Planned) →
+  given_unique : (rs qs : List Record) (t u : List ℕ) (r s : Result ℕ Refusal) →
       GivenRecords j records rs table t (said_planned r) → GivenRecords j records qs table u (said_planned s) →
       (r ≡ s) × (rs ≡ qs) × (t ≡ u)
-  given_unique rs qs t u (Cost c) (Cost d) a b =
-      let e = planned_unique rs qs t u c d a b in (ap Cost e.0, e.1, e.2)
-  given_unique rs qs t u (Cost c) (Refused s) a b = absurd (none_excludes b.first a.no_fault)
-  given_unique rs qs t u (Refused r) (Cost d) a b = absurd (none_excludes a.first b.no_fault)
-  given_unique rs qs t u (Refused r) (Refused s) a b =
+  given_unique rs qs t u (Ok c) (Ok d) a b =
+      let e = planned_unique rs qs t u c d a b in (ap Ok e.0, e.1, e.2)
+  given_unique rs qs t u (Ok c) (Err s) a b = absurd (none_excludes b.first a.no_fault)
+  given_unique rs qs t u (Err r) (Ok d) a b = absurd (none_excludes a.first b.no_fault)
+  given_unique rs qs t u (Err r) (Err s) a b =
       let e = refused_unique rs qs t u (number_of r.fault) r.place (number_of s.fault) s.place a b in
       let same = number_one_fault r.fault s.fault e.0.0 in
-      (ap Refused (λ i. record { fault = same i; place = e.0.1 i }), e.1, e.2)
+      (ap Err (λ i. record { fault = same i; place = e.0.1 i }), e.1, e.2)
 
-  pub plan_unique : (r s : Planned) (M O : Network) (rs qs : List Record) (o p t u : List ℕ) →
+  pub plan_unique : (r s : Result ℕ Refusal) (M O : Network) (rs qs : List Record) (o p t u : List ℕ) →
       RecordPlanning N M records rs order o dwell table t r →
       RecordPlanning N O records qs order p dwell table u s →
       (r ≡ s) × (M ≡ O) × (rs ≡ qs) × (o ≡ p) × (t ≡ u)
@@ -159,7 +156,7 @@ kept_same a b = (
 
 module _ (N : Network) (records : List Record) (order : List ℕ) (dwell : ℕ) (M O : Network)
     (rs qs : List Record) (o p : List ℕ) where
-  pub write_unique : (out t u : List ℕ) (r s : Written) →
+  pub write_unique : (out t u : List ℕ) (r s : Result ℕ Refusal) →
       RecordWriting N M records rs order o dwell out t r →
       RecordWriting N O records qs order p dwell out u s →
       ((r ≡ s) × (t ≡ u)) × ((M ≡ O) × (rs ≡ qs) × (o ≡ p))
@@ -171,7 +168,7 @@ module _ (N : Network) (records : List Record) (order : List ℕ) (dwell : ℕ) 
 
 module _ (N : Network) (records : List Record) (order : List ℕ) (dwell c : ℕ) (M O : Network)
     (rs qs : List Record) (o p : List ℕ) where
-  pub house_unique : (path t u : List ℕ) (r s : Housed) →
+  pub house_unique : (path t u : List ℕ) (r s : Result ℕ Refusal) →
       HouseOfRecords N M records rs order o dwell c path t r →
       HouseOfRecords N O records qs order p dwell c path u s →
       ((r ≡ s) × (t ≡ u)) × ((M ≡ O) × (rs ≡ qs) × (o ≡ p))
@@ -181,7 +178,7 @@ module _ (N : Network) (records : List Record) (order : List ℕ) (dwell c : ℕ
         kept_same a.kept b.kept,
       )
 
-  pub judge_unique : (list t u : List ℕ) (r s : Checked) →
+  pub judge_unique : (list t u : List ℕ) (r s : Result Unit Refusal) →
       ListOfRecords N M records rs order o dwell c list t r →
       ListOfRecords N O records qs order p dwell c list u s →
       ((r ≡ s) × (t ≡ u)) × ((M ≡ O) × (rs ≡ qs) × (o ≡ p))

@@ -11,11 +11,12 @@ use mathlib.Core.Path.{◌≡◌, sym, ◌∙◌}
 use mathlib.Core.List.{List}
 use Prim.Native.Nat.{ℕ}
 use native.Mathlib.Omega.{arith}
+use Rattle.std.proofs.Common.{Result}
 use Rattle.hall.specs.declared.Job.{Job}
+use Rattle.hall.specs.declared.Refusal.{Refusal}
 use Rattle.hall.specs.Limits.{node_limit, carrier_limit, lane_numbers}
 use Rattle.hall.specs.Said.{Said}
 use Rattle.hall.proofs.Test.{dec, lt?, ◌or?◌}
-use Rattle.reader.specs.declared.Read.{Read}
 use Rattle.reader.specs.Reading.{said_read}
 use Rattle.reader.proofs.Unique.{said_unique, said_read_one}
 use Rattle.recorded.specs.Reading.{RecordsShort}
@@ -33,7 +34,7 @@ module _ (text lanes closed : List ℕ) (records : ℕ) (moves order l l' c c' m
   said_beside s s' (enough _ h x) (enough _ h' x') =
       said_unique text lanes closed moves order l l' c c' m m' o o' s s' x x'
 
-  pub beside_unique : (r r' : Read)
+  pub beside_unique : (r r' : Result Job Refusal)
       → Beside text lanes closed records moves order l c m o (said_read r)
       → Beside text lanes closed records moves order l' c' m' o' (said_read r')
       → (r ≡ r') × (l ≡ l') × (c ≡ c') × (m ≡ m') × (o ≡ o')

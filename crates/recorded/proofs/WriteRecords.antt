@@ -6,11 +6,12 @@ use mathlib.Core.Path.{refl}
 use mathlib.Core.List.{List}
 use Prim.Native.Nat.{ℕ}
 use lib.ListN.{length}
+use Rattle.std.proofs.Common.{Result}
+use Rattle.hall.specs.declared.Refusal.{Refusal}
 use Rattle.hall.specs.Floor.{Network}
 use Rattle.hall.specs.Job.{job_of}
 use Rattle.records.specs.declared.Record.{Record}
 use Rattle.records.specs.Table.{moved}
-use Rattle.writer.specs.declared.Written.{Written}
 use Rattle.writer.specs.Writing.{said_written, Writing}
 use Rattle.writer.proofs.Crowded.{writing_alike}
 use Rattle.recorded.specs.Writing.{RecordWriting}
@@ -18,7 +19,7 @@ use Rattle.recorded.specs.Loading.{loaded}
 use Rattle.recorded.proofs.Loading.{zeros130, loaded_as}
 
 pub records_written : (N : Network) (rs : List Record) (order : List ℕ) (dwell : ℕ) (out out' : List ℕ)
-    (r : Written) →
+    (r : Result ℕ Refusal) →
     Writing (job_of N (loaded (length rs) (moved rs zeros130)) order dwell) out out' (said_written r) →
     RecordWriting N N rs rs order order dwell out out' r
 records_written N rs order dwell out out' r a = record {

@@ -5,16 +5,17 @@
 --     crowd         how many records are looked at: one more than a job can have, since any number above 64
 --                   is refused like 65
 --     loaded        the numbers of the moves of n records, of so many at most, in front of a list
---     stored_count   how many records planning writes: none after a refusal
-use Rattle.std.specs.Prelude.{◌≡◌, List, ℕ, ◌*◌, ◌≤◌, ◌<◌, min, take}
+--     loaded_job    the job whose moves are these, in front of the list that is lent as its moves
+--     stored_count  how many records planning writes: none after a refusal
+use Rattle.std.specs.Prelude.{◌≡◌, List, ℕ, ◌*◌, ◌≤◌, ◌<◌, min, take, Result, Ok, Err}
 use Rattle.hall.specs.declared.Job.{Job}
 use Rattle.hall.specs.declared.Fault.TheVariants.{ShortTable}
+use Rattle.hall.specs.declared.Refusal.{Refusal}
 use Rattle.hall.specs.Limits.{carrier_limit}
+use Rattle.hall.specs.Job.{Numbers, job_of}
 use Rattle.hall.specs.Numbers.{number_of}
 use Rattle.hall.specs.Said.{Said, refused}
 use Rattle.reader.specs.Reading.{ReadInto}
-use Rattle.planner.specs.declared.Planned.{Planned}
-use Rattle.planner.specs.declared.Planned.TheVariants.{Cost, Refused}
 use Rattle.recorded.specs.Reading.{RecordsShort}
 
 pub data Beside (text lanes closed : List ℕ) (records : ℕ)
@@ -36,6 +37,9 @@ crowd = 65
 abbrev pub loaded : ℕ → List ℕ → List ℕ
 loaded n moves = take (2 * min n crowd) moves
 
-abbrev pub stored_count : Planned → ℕ → ℕ
-stored_count (Cost c) n = n
-stored_count (Refused r) n = 0
+abbrev pub loaded_job : ℕ → Numbers → Numbers
+loaded_job n j = job_of j.network (loaded n j.moves) j.order j.dwell
+
+abbrev pub stored_count : Result ℕ Refusal → ℕ → ℕ
+stored_count (Ok cost) n = n
+stored_count (Err r) n = 0

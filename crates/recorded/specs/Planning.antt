@@ -13,7 +13,8 @@
 --                      too, and any other zeroes it
 --     GivenRecords     what is left with what is said: accepted or refused so
 --     RecordPlanning   the promise: that, and network and order are as they came
-use Rattle.std.specs.Prelude.{◌≡◌, List, ℕ, ◌<◌, length}
+use Rattle.std.specs.Prelude.{◌≡◌, List, ℕ, ◌<◌, length, Result}
+use Rattle.hall.specs.declared.Refusal.{Refusal}
 use Rattle.hall.specs.Limits.{table_length}
 use Rattle.hall.specs.Floor.{Network}
 use Rattle.hall.specs.Job.{Numbers, carriers}
@@ -24,7 +25,6 @@ use Rattle.hall.specs.Left.{left}
 use Rattle.hall.specs.Ticks.{Tables, own}
 use Rattle.hall.specs.Plan.{Plan, tables_in}
 use Rattle.tables.specs.Filling.{TableLeft}
-use Rattle.planner.specs.declared.Planned.{Planned}
 use Rattle.planner.specs.Planning.{said_planned}
 use Rattle.records.specs.declared.Record.{Record}
 use Rattle.records.specs.Table.{record_at}
@@ -66,7 +66,7 @@ GivenRecords j records records' table table' (refused n p) =
     RecordsRefused j records records' table table' n p
 
 pub record RecordPlanning (N N' : Network) (records records' : List Record) (order order' : List ℕ)
-    (dwell : ℕ) (table table' : List ℕ) (r : Planned) : Type 0 where
+    (dwell : ℕ) (table table' : List ℕ) (r : Result ℕ Refusal) : Type 0 where
   pub given : GivenRecords (record_job N records order dwell) records records' table table' (said_planned r)
   pub network_kept : N' ≡ N
   pub order_kept : order' ≡ order

@@ -16,8 +16,9 @@
 --     ReadLeft        the promise: that, and the text is as it came
 --     job_as_read         the job that the counts of an answer cut out of the tables, with the dwell that is
 --                     answered: the numbers that a caller hands on to planning
-use Rattle.std.specs.Prelude.{◌≡◌, ◌⊎◌, cond, List, [], ◌∷◌, ◌++◌, ℕ, ◌*◌, ◌-◌, ◌<◌, length, take, drop, replicate, eqb}
+use Rattle.std.specs.Prelude.{◌≡◌, ◌⊎◌, cond, List, [], ◌∷◌, ◌++◌, ℕ, ◌*◌, ◌-◌, ◌<◌, length, take, drop, replicate, eqb, Result}
 use Rattle.hall.specs.declared.Job.{Job}
+use Rattle.hall.specs.declared.Refusal.{Refusal}
 use Rattle.hall.specs.Limits.{node_limit, carrier_limit, lane_numbers}
 use Rattle.hall.specs.Floor.{network_of}
 use Rattle.hall.specs.Job.{Numbers}
@@ -26,7 +27,6 @@ use Rattle.hall.specs.Left.{filled, left}
 use Rattle.records.specs.declared.Record.{Record}
 use Rattle.records.specs.Table.{blank, fresh}
 use Rattle.form.specs.Jobs.{WrittenJob}
-use Rattle.reader.specs.declared.Read.{Read}
 use Rattle.reader.specs.Reading.{said_read, counts_of, Reason}
 use Rattle.recorded.specs.Job.{record_job}
 
@@ -83,7 +83,7 @@ module _ (text lanes closed : List ℕ) (records : List Record) (order : List �
       JobRefused lanes' closed' records' order' number line
 
 pub record ReadLeft (text text' lanes lanes' closed closed' : List ℕ) (records records' : List Record)
-    (order order' : List ℕ) (r : Read) : Type 0 where
+    (order order' : List ℕ) (r : Result Job Refusal) : Type 0 where
   pub given : GivenJob text lanes closed records order lanes' closed' records' order' (said_read r)
   pub text_kept : text' ≡ text
 

@@ -3,15 +3,15 @@
 -- as the question leaves it.
 --     RecordWriting   the text of the job in the output, or the first fault and what that leaves there; the
 --                     network, the records and the order are as they came
-use Rattle.std.specs.Prelude.{List, ℕ}
+use Rattle.std.specs.Prelude.{List, ℕ, Result}
+use Rattle.hall.specs.declared.Refusal.{Refusal}
 use Rattle.hall.specs.Floor.{Network}
 use Rattle.records.specs.declared.Record.{Record}
-use Rattle.writer.specs.declared.Written.{Written}
 use Rattle.writer.specs.Writing.{said_written, Writing}
 use Rattle.recorded.specs.Job.{record_job}
 use Rattle.recorded.specs.Asking.{RecordsKept}
 
 pub record RecordWriting (N N' : Network) (records records' : List Record) (order order' : List ℕ)
-    (dwell : ℕ) (out out' : List ℕ) (r : Written) : Type 0 where
+    (dwell : ℕ) (out out' : List ℕ) (r : Result ℕ Refusal) : Type 0 where
   pub given : Writing (record_job N records order dwell) out out' (said_written r)
   pub kept : RecordsKept N N' records records' order order'

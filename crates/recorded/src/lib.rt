@@ -10,21 +10,19 @@
 // tells enough.
 #![tactic(auto)]
 
-ghost use Rattle.std.specs.Prelude.{◌≡◌, min};
-ghost use Rattle.hall.specs.Floor.{network_of};
-ghost use Rattle.hall.specs.Job.{job_of};
+ghost use Rattle.std.specs.Prelude.{◌≡◌};
+ghost use Rattle.hall.specs.Job.{job_in};
 ghost use Rattle.reader.specs.Reading.{said_read};
 ghost use Rattle.planner.specs.Planning.{said_planned, lent, Planning};
 ghost use Rattle.writer.specs.Writing.{said_written, Writing};
 ghost use Rattle.recorded.specs.Asking.{HouseGiven, ListGiven};
-ghost use Rattle.recorded.specs.Loading.{Beside, Placing, loaded, stored_count};
+ghost use Rattle.recorded.specs.Loading.{Beside, Placing, loaded, loaded_job, stored_count};
 
 use asks::{house_for, judge_for};
-use hall::{Carrier, Checked, Fault, Job, Refusal};
-use path::Housed;
-use planner::{Planned, plan_moves};
-use reader::{Read, read_numbers};
-use writer::{Written, write_numbers};
+use hall::{Carrier, Fault, Job, JobNumbers, Refusal};
+use planner::plan_moves;
+use reader::read_numbers;
+use writer::write_numbers;
 
 // As many records are loaded as a job can have, and one more: it tells that there are too many.
 const LOADED: usize = Job::CARRIERS + 1;
@@ -41,7 +39,7 @@ pub fn read_beside(
     records: usize,
     moves: &mut [u16],
     order: &mut [u16],
-) -> Read
+) -> Result<Job, Refusal>
     ensures { Beside
         text.now
         lanes.old closed.old records moves.old order.old
@@ -49,7 +47,7 @@ pub fn read_beside(
         (said_read result) }
 {
     if records < Job::CARRIERS {
-        return Read::Refused(Refusal::new(Fault::ShortTable, 0));
+        return Err(Refusal::new(Fault::ShortTable, 0));
     }
     read_numbers(text, lanes, closed, moves, order)
 }
@@ -58,185 +56,101 @@ pub fn read_beside(
 pub fn placed_count(lanes: usize, closed: usize, records: usize, order: usize) -> usize
     ensures { Placing lanes closed records order result }
 {
-    if lanes < Job::LANE_NUMBERS {
-        return 0;
-    }
-    if closed < Job::NODES {
-        return 0;
-    }
-    if records < Job::CARRIERS {
-        return 0;
-    }
-    if order < Job::CARRIERS {
-        return 0;
-    }
-    Job::CARRIERS
+    let short = lanes < Job::LANE_NUMBERS
+        || closed < Job::NODES
+        || records < Job::CARRIERS
+        || order < Job::CARRIERS;
+    if short { 0 } else { Job::CARRIERS }
 }
 
 // ---- the moves that are loaded
-
-// The smaller of two counts.
-fn fewer(a: usize, b: usize) -> usize
-    ensures { result ≡ min a b }
-{
-    if a < b {
-        return a;
-    }
-    b
-}
 
 // The part of a list that has the moves of that many records, of 65 at most.
 fn part(records: usize, moves: &[u16]) -> &[u16]
     ensures { result.now ≡ loaded records moves.now }
 {
-    let most = fewer(records, LOADED);
-    let n = fewer(2 * most, moves.len());
+    let most = records.min(LOADED);
+    let n = moves.len().min(2 * most);
     &moves[..n]
+}
+
+// The job whose moves are that part of the list that is lent as its moves.
+fn loaded_part<'a>(job: &JobNumbers<'a>, records: usize) -> JobNumbers<'a>
+    ensures { job_in result ≡ loaded_job records (job_in job.now) }
+{
+    JobNumbers {
+        moves: part(records, job.moves),
+        ..*job
+    }
 }
 
 // ---- the questions
 
 // The plan of a job of `records` carriers whose moves are loaded.
 pub fn plan_loaded(
-    nodes: usize,
-    lanes: &[u16],
-    closed: &[u16],
+    job: &JobNumbers,
     records: usize,
-    moves: &[u16],
-    order: &[u16],
-    dwell: usize,
     table: &mut [u16],
     distances: &mut [u16],
     ticks: &mut [u32],
-) -> Planned
+) -> Result<u32, Refusal>
     ensures { Planning
-        (job_of
-        (network_of nodes lanes.now closed.now)
-        (loaded records moves.now)
-        order.now
-        dwell)
+        (loaded_job records (job_in job.now))
         (lent table.old distances.old ticks.old)
         (lent table.new distances.new ticks.new)
         (said_planned result) }
 {
-    plan_moves(
-        nodes,
-        lanes,
-        closed,
-        part(records, moves),
-        order,
-        dwell,
-        table,
-        distances,
-        ticks,
-    )
+    plan_moves(&loaded_part(job, records), table, distances, ticks)
 }
 
 // How many of `records` records planning writes: none after a refusal.
-pub fn stored_count(answer: Planned, records: usize) -> usize
+pub fn stored_count(answer: Result<u32, Refusal>, records: usize) -> usize
     ensures { result ≡ stored_count answer records }
 {
     match answer {
-        Planned::Cost(_) => records,
-        Planned::Refused(_) => 0,
+        Ok(_) => records,
+        Err(_) => 0,
     }
 }
 
 // The house path of one carrier of a job of `records` carriers whose moves are loaded.
 pub fn house_loaded(
-    nodes: usize,
-    lanes: &[u16],
-    closed: &[u16],
+    job: &JobNumbers,
     records: usize,
-    moves: &[u16],
-    order: &[u16],
-    dwell: usize,
     carrier: Carrier,
     path: &mut [u16],
-) -> Housed
+) -> Result<usize, Refusal>
     ensures { HouseGiven
-        (job_of
-        (network_of nodes lanes.now closed.now)
-        (loaded records moves.now)
-        order.now
-        dwell)
+        (loaded_job records (job_in job.now))
         carrier.0
         path.old path.new
         result }
 {
-    house_for(
-        nodes,
-        lanes,
-        closed,
-        part(records, moves),
-        order,
-        dwell,
-        carrier,
-        path,
-    )
+    house_for(&loaded_part(job, records), carrier, path)
 }
 
 // Whether a list is a shortest path of one carrier of a job of `records` carriers whose moves are loaded.
 pub fn judge_loaded(
-    nodes: usize,
-    lanes: &[u16],
-    closed: &[u16],
+    job: &JobNumbers,
     records: usize,
-    moves: &[u16],
-    order: &[u16],
-    dwell: usize,
     carrier: Carrier,
     list: &[u16],
-) -> Checked
+) -> Result<(), Refusal>
     ensures { ListGiven
-        (job_of
-        (network_of nodes lanes.now closed.now)
-        (loaded records moves.now)
-        order.now
-        dwell)
+        (loaded_job records (job_in job.now))
         carrier.0
         list.now
         result }
 {
-    judge_for(
-        nodes,
-        lanes,
-        closed,
-        part(records, moves),
-        order,
-        dwell,
-        carrier,
-        list,
-    )
+    judge_for(&loaded_part(job, records), carrier, list)
 }
 
 // The text of a job of `records` carriers whose moves are loaded.
-pub fn write_loaded(
-    nodes: usize,
-    lanes: &[u16],
-    closed: &[u16],
-    records: usize,
-    moves: &[u16],
-    order: &[u16],
-    dwell: usize,
-    out: &mut [u8],
-) -> Written
+pub fn write_loaded(job: &JobNumbers, records: usize, out: &mut [u8]) -> Result<usize, Refusal>
     ensures { Writing
-        (job_of
-        (network_of nodes lanes.now closed.now)
-        (loaded records moves.now)
-        order.now
-        dwell)
+        (loaded_job records (job_in job.now))
         out.old out.new
         (said_written result) }
 {
-    write_numbers(
-        nodes,
-        lanes,
-        closed,
-        part(records, moves),
-        order,
-        dwell,
-        out,
-    )
+    write_numbers(&loaded_part(job, records), out)
 }

@@ -7,13 +7,11 @@
 use mathlib.Core.Path.{◌≡◌, sym, ap, ◌∙◌}
 use mathlib.Core.List.{List, ◌++◌}
 use Prim.Native.Nat.{ℕ}
-use Rattle.hall.specs.declared.Checked.{Checked}
+use Rattle.std.proofs.Common.{Result}
+use Rattle.hall.specs.declared.Job.{Job}
+use Rattle.hall.specs.declared.Refusal.{Refusal}
 use Rattle.hall.specs.Floor.{Network}
 use Rattle.records.specs.declared.Record.{Record}
-use Rattle.reader.specs.declared.Read.{Read}
-use Rattle.path.specs.declared.Housed.{Housed}
-use Rattle.planner.specs.declared.Planned.{Planned}
-use Rattle.writer.specs.declared.Written.{Written}
 use Rattle.recorded.proofs.Unique.{read_job_unique, plan_unique, house_unique, judge_unique, write_unique}
 use Rattle.try_columns.specs.Columns.{told_to}
 use Rattle.try_records.specs.Lent.{front_of, back_of, Lending}
@@ -29,7 +27,7 @@ module _ (count : ℕ) (records : List Record) where
     lending_unique A B a b same =
         a.told ∙ ap (λ (rs : List Record). told_to (rs ++ back_of count records) fields) same ∙ sym b.told
 
-    pub read_lent_unique : (text t u lanes l m closed cs ds order o p : List ℕ) (r s : Read)
+    pub read_lent_unique : (text t u lanes l m closed cs ds order o p : List ℕ) (r s : Result Job Refusal)
         → LentReading text t lanes l closed cs count order o records fields f r
         → LentReading text u lanes m closed ds count order p records fields g s
         → (r ≡ s) × (t ≡ u) × (l ≡ m) × (cs ≡ ds) × (o ≡ p) × (f ≡ g)
@@ -40,7 +38,7 @@ module _ (count : ℕ) (records : List Record) where
         (e.0, e.1, e.2, e.3, e.5, lending_unique _ _ a b e.4)
 
     pub plan_lent_unique : (N M O : Network) (order o p : List ℕ) (dwell : ℕ) (table t u : List ℕ)
-        (r s : Planned) → LentPlanning N M count order o dwell table t records fields f r
+        (r s : Result ℕ Refusal) → LentPlanning N M count order o dwell table t records fields f r
         → LentPlanning N O count order p dwell table u records fields g s
         → (r ≡ s) × (M ≡ O) × (o ≡ p) × (t ≡ u) × (f ≡ g)
     plan_lent_unique N M O order o p dwell table t u r s a b =
@@ -50,7 +48,7 @@ module _ (count : ℕ) (records : List Record) where
         (e.0, e.1, e.3, e.4, lending_unique _ _ a b e.2)
 
   module _ (N M O : Network) (order o p : List ℕ) (dwell : ℕ) where
-    pub house_lent_unique : (c : ℕ) (path t u : List ℕ) (r s : Housed)
+    pub house_lent_unique : (c : ℕ) (path t u : List ℕ) (r s : Result ℕ Refusal)
         → LentHouse N M count order o dwell c path t records r
         → LentHouse N O count order p dwell c path u records s
         → (r ≡ s) × (M ≡ O) × (o ≡ p) × (t ≡ u)
@@ -58,7 +56,7 @@ module _ (count : ℕ) (records : List Record) where
         let e = house_unique N front order dwell c M O front front o p path t u r s a b in
         (e.0.0, e.1.0, e.1.2, e.0.1)
 
-    pub judge_lent_unique : (c : ℕ) (list t u : List ℕ) (r s : Checked)
+    pub judge_lent_unique : (c : ℕ) (list t u : List ℕ) (r s : Result Unit Refusal)
         → LentList N M count order o dwell c list t records r
         → LentList N O count order p dwell c list u records s
         → (r ≡ s) × (M ≡ O) × (o ≡ p) × (t ≡ u)
@@ -66,7 +64,7 @@ module _ (count : ℕ) (records : List Record) where
         let e = judge_unique N front order dwell c M O front front o p list t u r s a b in
         (e.0.0, e.1.0, e.1.2, e.0.1)
 
-    pub write_lent_unique : (out t u : List ℕ) (r s : Written)
+    pub write_lent_unique : (out t u : List ℕ) (r s : Result ℕ Refusal)
         → LentWriting N M count order o dwell out t records r
         → LentWriting N O count order p dwell out u records s
         → (r ≡ s) × (M ≡ O) × (o ≡ p) × (t ≡ u)

@@ -11,14 +11,11 @@
 --     LentReading     reading a job text is asked so; LentPlanning planning
 --     LentHouse       the house path of a carrier is asked with the front; LentList whether a list is a
 --                     shortest path of a carrier; LentWriting writing a job as its text
-use Rattle.std.specs.Prelude.{◌≡◌, List, ◌++◌, ℕ, min, take, drop}
-use Rattle.hall.specs.declared.Checked.{Checked}
+use Rattle.std.specs.Prelude.{◌≡◌, List, ◌++◌, ℕ, min, take, drop, Result}
+use Rattle.hall.specs.declared.Job.{Job}
+use Rattle.hall.specs.declared.Refusal.{Refusal}
 use Rattle.hall.specs.Floor.{Network}
 use Rattle.records.specs.declared.Record.{Record}
-use Rattle.reader.specs.declared.Read.{Read}
-use Rattle.path.specs.declared.Housed.{Housed}
-use Rattle.planner.specs.declared.Planned.{Planned}
-use Rattle.writer.specs.declared.Written.{Written}
 use Rattle.try_columns.specs.Columns.{lendable, told_to}
 use Rattle.recorded.specs.Reading.{ReadLeft}
 use Rattle.recorded.specs.Planning.{RecordPlanning}
@@ -42,28 +39,28 @@ pub record Lending (Asked : (records left : List Record) → Type 0) (count : �
   pub told : fields' ≡ told_to (left ++ back_of count records) fields
 
 abbrev pub LentReading : (text text' lanes lanes' closed closed' : List ℕ) (count : ℕ)
-    (order order' : List ℕ) (records : List Record) (fields fields' : List ℕ) → Read → Type 0
+    (order order' : List ℕ) (records : List Record) (fields fields' : List ℕ) → Result Job Refusal → Type 0
 LentReading text text' lanes lanes' closed closed' count order order' records fields fields' r =
     Lending (λ front left. ReadLeft text text' lanes lanes' closed closed' front left order order' r)
     count records fields fields'
 
 abbrev pub LentPlanning : (N N' : Network) (count : ℕ) (order order' : List ℕ) (dwell : ℕ)
-    (table table' : List ℕ) (records : List Record) (fields fields' : List ℕ) → Planned → Type 0
+    (table table' : List ℕ) (records : List Record) (fields fields' : List ℕ) → Result ℕ Refusal → Type 0
 LentPlanning N N' count order order' dwell table table' records fields fields' r =
     Lending (λ front left. RecordPlanning N N' front left order order' dwell table table' r)
     count records fields fields'
 
 abbrev pub LentHouse : (N N' : Network) (count : ℕ) (order order' : List ℕ) (dwell c : ℕ)
-    (path path' : List ℕ) (records : List Record) → Housed → Type 0
+    (path path' : List ℕ) (records : List Record) → Result ℕ Refusal → Type 0
 LentHouse N N' count order order' dwell c path path' records r =
     HouseOfRecords N N' (front_of count records) (front_of count records) order order' dwell c path path' r
 
 abbrev pub LentList : (N N' : Network) (count : ℕ) (order order' : List ℕ) (dwell c : ℕ)
-    (list list' : List ℕ) (records : List Record) → Checked → Type 0
+    (list list' : List ℕ) (records : List Record) → Result Unit Refusal → Type 0
 LentList N N' count order order' dwell c list list' records r =
     ListOfRecords N N' (front_of count records) (front_of count records) order order' dwell c list list' r
 
 abbrev pub LentWriting : (N N' : Network) (count : ℕ) (order order' : List ℕ) (dwell : ℕ)
-    (out out' : List ℕ) (records : List Record) → Written → Type 0
+    (out out' : List ℕ) (records : List Record) → Result ℕ Refusal → Type 0
 LentWriting N N' count order order' dwell out out' records r =
     RecordWriting N N' (front_of count records) (front_of count records) order order' dwell out out' r

@@ -12,17 +12,13 @@
 // fixes the answer, every lent table and `fields` (proofs/Unique.antt). Nothing is decided here.
 #![tactic(auto)]
 
-ghost use Rattle.hall.specs.Floor.{network_of};
+ghost use Rattle.hall.specs.Floor.{network_in};
 ghost use Rattle.try_records.specs.Lent.{LentReading, LentPlanning, LentHouse, LentList, LentWriting};
 
-use hall::{Carrier, Checked};
+use hall::{Carrier, Job, Network, Refusal};
 use jobs::{house, judge, plan, read_job, write_job};
-use path::Housed;
-use planner::Planned;
-use reader::Read;
 use records::Record;
 use try_columns::{LENDABLE, told, within};
-use writer::Written;
 
 // `jobs::read_job` with the first `count` records lent.
 pub fn read_lent(
@@ -33,7 +29,7 @@ pub fn read_lent(
     order: &mut [u16],
     mut records: [Record; LENDABLE],
     fields: &mut [u32],
-) -> Read
+) -> Result<Job, Refusal>
     ensures { LentReading
         text.now text.now
         lanes.old lanes.new
@@ -52,19 +48,17 @@ pub fn read_lent(
 
 // `jobs::plan` with the first `count` records lent.
 pub fn plan_lent(
-    nodes: usize,
-    lanes: &[u16],
-    closed: &[u16],
+    network: &Network,
     count: usize,
     order: &[u16],
     dwell: usize,
     table: &mut [u16],
     mut records: [Record; LENDABLE],
     fields: &mut [u32],
-) -> Planned
+) -> Result<u32, Refusal>
     ensures { LentPlanning
-        (network_of nodes lanes.now closed.now)
-        (network_of nodes lanes.now closed.now)
+        (network_in network.now)
+        (network_in network.now)
         count
         order.now order.now
         dwell
@@ -74,26 +68,24 @@ pub fn plan_lent(
         result }
 {
     let n = within(count);
-    let answer = plan(nodes, lanes, closed, &mut records[..n], order, dwell, table);
+    let answer = plan(network, &mut records[..n], order, dwell, table);
     told(records, fields);
     answer
 }
 
 // `jobs::house` with the first `count` records lent.
 pub fn house_lent(
-    nodes: usize,
-    lanes: &[u16],
-    closed: &[u16],
+    network: &Network,
     count: usize,
     order: &[u16],
     dwell: usize,
     carrier: Carrier,
     path: &mut [u16],
     records: [Record; LENDABLE],
-) -> Housed
+) -> Result<usize, Refusal>
     ensures { LentHouse
-        (network_of nodes lanes.now closed.now)
-        (network_of nodes lanes.now closed.now)
+        (network_in network.now)
+        (network_in network.now)
         count
         order.now order.now
         dwell
@@ -103,33 +95,22 @@ pub fn house_lent(
         result }
 {
     let n = within(count);
-    house(
-        nodes,
-        lanes,
-        closed,
-        &records[..n],
-        order,
-        dwell,
-        carrier,
-        path,
-    )
+    house(network, &records[..n], order, dwell, carrier, path)
 }
 
 // `jobs::judge` with the first `count` records lent.
 pub fn judge_lent(
-    nodes: usize,
-    lanes: &[u16],
-    closed: &[u16],
+    network: &Network,
     count: usize,
     order: &[u16],
     dwell: usize,
     carrier: Carrier,
     list: &[u16],
     records: [Record; LENDABLE],
-) -> Checked
+) -> Result<(), Refusal>
     ensures { LentList
-        (network_of nodes lanes.now closed.now)
-        (network_of nodes lanes.now closed.now)
+        (network_in network.now)
+        (network_in network.now)
         count
         order.now order.now
         dwell
@@ -139,32 +120,21 @@ pub fn judge_lent(
         result }
 {
     let n = within(count);
-    judge(
-        nodes,
-        lanes,
-        closed,
-        &records[..n],
-        order,
-        dwell,
-        carrier,
-        list,
-    )
+    judge(network, &records[..n], order, dwell, carrier, list)
 }
 
 // `jobs::write_job` with the first `count` records lent.
 pub fn write_lent(
-    nodes: usize,
-    lanes: &[u16],
-    closed: &[u16],
+    network: &Network,
     count: usize,
     order: &[u16],
     dwell: usize,
     out: &mut [u8],
     records: [Record; LENDABLE],
-) -> Written
+) -> Result<usize, Refusal>
     ensures { LentWriting
-        (network_of nodes lanes.now closed.now)
-        (network_of nodes lanes.now closed.now)
+        (network_in network.now)
+        (network_in network.now)
         count
         order.now order.now
         dwell
@@ -173,5 +143,5 @@ pub fn write_lent(
         result }
 {
     let n = within(count);
-    write_job(nodes, lanes, closed, &records[..n], order, dwell, out)
+    write_job(network, &records[..n], order, dwell, out)
 }

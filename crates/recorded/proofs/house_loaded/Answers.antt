@@ -2,4 +2,4 @@
 use Rattle.recorded.proofs.house_loaded.Goals as goal
 
 pub returns : goal.returns
-returns c = rw c.part.ensures at c.house_for.ensures.given
+returns c = rw c.loaded_part.ensures at c.house_for.ensures.given

@@ -2,4 +2,4 @@
 use Rattle.recorded.proofs.judge_loaded.Goals as goal
 
 pub returns : goal.returns
-returns c = rw c.part.ensures at c.judge_for.ensures.judged
+returns c = rw c.loaded_part.ensures at c.judge_for.ensures.judged
