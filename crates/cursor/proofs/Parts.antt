@@ -17,7 +17,7 @@ use Rattle.put.proofs.Digits.{below_ten, digit_behind}
 use Rattle.form.proofs.Cuts.{head_same, tail_same, never_empty}
 use Rattle.cursor.specs.declared.bytes.Kind.TheVariants.{Digit, Capital}
 use Rattle.cursor.specs.declared.Cursor.{Cursor}
-use Rattle.cursor.specs.declared.Numbered.{Numbered}
+use Rattle.std.specs.Prelude.{Option}
 use Rattle.cursor.specs.Bytes.{kind_of, Capitals}
 use Rattle.cursor.specs.Parts.{NoDigit, DigitTaken, NumberTaken, Numbering}
 use Rattle.cursor.proofs.ByteKinds.{kind_capital, lies}
@@ -212,7 +212,7 @@ module _ (text : List ℕ) (c : Cursor) (d : ℕ) (next : Cursor) (taken : Digit
     same_line = taken.same_line;
   }
 
-  pub number_more : (r : Numbered)
+  pub number_more : (r : Option (ℕ × Cursor))
       → Numbering text (digits d ++ drop next.at text) next.line r
       → Numbering text (drop c.at text) c.line r
   number_more r x = rw (number_front, ← taken.same_line) x

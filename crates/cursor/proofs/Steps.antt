@@ -17,7 +17,7 @@ use Rattle.form.proofs.Cuts.{tail_same}
 use Rattle.form.proofs.LineForms.{further_breaks}
 use Rattle.form.proofs.LineTests.{front_unique, Followed, followed, followed_front}
 use Rattle.cursor.specs.declared.Cursor.{Cursor}
-use Rattle.cursor.specs.declared.Numbered.{Numbered}
+use Rattle.std.specs.Prelude.{Option, None, Some}
 use Rattle.cursor.specs.Steps.{line_limit, Behind, Counting, EntryTaken, Entering}
 use Rattle.cursor.specs.Bytes.{Capitals}
 use Rattle.cursor.specs.Parts.{NoDigit, NumberTaken}
@@ -140,7 +140,7 @@ module _ (text word : List ℕ) (c : Cursor) where
   spelt x = x.begins ∙ append_assoc word (further (x.n ∷ [])) x.rest
 
   pub count_bad : (Capitals word → (rest : List ℕ) → ¬ (drop c.at text ≡ word ++ rest))
-      → Counting text word c Numbered.Bad
+      → Counting text word c None
   count_bad lacks caps x = lacks caps (32 ∷ (entry_line (x.n ∷ []) ++ x.rest)) (spelt x)
 
   module _ (behind : Cursor) (begins : drop c.at text ≡ word ++ drop behind.at text)
@@ -152,14 +152,14 @@ module _ (text word : List ℕ) (c : Cursor) where
         (sym begins ∙ spelt x)
 
     pub count_alone : ((rest : List ℕ) → ¬ (drop behind.at text ≡ 32 ∷ rest))
-        → Counting text word c Numbered.Bad
+        → Counting text word c None
     count_alone lacks _ x = lacks (entry_line (x.n ∷ []) ++ x.rest) (after_word x)
 
     module _ (second : Cursor) (space : drop behind.at text ≡ 32 ∷ drop second.at text) where
-      pub count_line_lem : second.line ≡ c.line → (r : Numbered) → Entering text second r
+      pub count_line_lem : second.line ≡ c.line → (r : Option (ℕ × Cursor)) → Entering text second r
           → Counting text word c r
       unfolding count_line further entry_line
-      count_line_lem same (Numbered.Got n next) x =
+      count_line_lem same (Some (n, next)) x =
           let own = x.taken in
           let ends = own.begins ∙ ap (λ (e : List ℕ). entry_line e ++ own.rest) x.is_entry in
           record {
@@ -178,7 +178,7 @@ module _ (text word : List ℕ) (c : Cursor) where
               next_line = x.behind.next_line ∙ ap (λ (l : ℕ). min (suc l) line_limit) same;
             };
           }
-      count_line_lem same Numbered.Bad lacks = λ _ x.
+      count_line_lem same None lacks = λ _ x.
           lacks (record {
             e = x.n ∷ [];
             rest = x.rest;

@@ -13,8 +13,7 @@ use Rattle.form.proofs.Cuts.{head_same, tail_same}
 use Rattle.form.proofs.LineForms.{further_unique, entry_unique}
 use Rattle.form.proofs.LineTests.{front_unique}
 use Rattle.cursor.specs.declared.Cursor.{Cursor}
-use Rattle.cursor.specs.declared.Numbered.{Numbered}
-use Rattle.cursor.specs.declared.Paired.{Paired}
+use Rattle.std.specs.Prelude.{Option, None, Some}
 use Rattle.cursor.specs.Steps.{Behind, EntryTaken, Counting, Entering, EnteringTwo}
 
 pub behind_unique : (text : List ℕ) (c a b : Cursor) (r s : List ℕ) → r ≡ s
@@ -36,28 +35,28 @@ taken_unique text c a b e f l x y =
     (sym x.taken.begins ∙ y.taken.begins) in
     (sym x.is_entry ∙ u.0 ∙ y.is_entry, behind_unique text c a b _ _ u.1 x.behind y.behind)
 
-pub entering_unique : (text : List ℕ) (c : Cursor) (r s : Numbered) → Entering text c r → Entering text c s
+pub entering_unique : (text : List ℕ) (c : Cursor) (r s : Option (ℕ × Cursor)) → Entering text c r → Entering text c s
     → r ≡ s
-entering_unique text c (Numbered.Got n a) (Numbered.Got m b) x y =
+entering_unique text c (Some (n, a)) (Some (m, b)) x y =
     let u = taken_unique text c a b _ _ refl x y in
     let number = head_same u.0 in
     let next = u.1 in
-    λ i. Numbered.Got (number i) (next i)
-entering_unique text c (Numbered.Got n a) Numbered.Bad x y = absurd (y x.taken)
-entering_unique text c Numbered.Bad (Numbered.Got m b) x y = absurd (x y.taken)
-entering_unique text c Numbered.Bad Numbered.Bad x y = refl
+    λ i. Some (number i, next i)
+entering_unique text c (Some (n, a)) None x y = absurd (y x.taken)
+entering_unique text c None (Some (m, b)) x y = absurd (x y.taken)
+entering_unique text c None None x y = refl
 
-pub entering_two_unique : (text : List ℕ) (c : Cursor) (r s : Paired)
+pub entering_two_unique : (text : List ℕ) (c : Cursor) (r s : Option (ℕ × ℕ × Cursor))
     → EnteringTwo text c r → EnteringTwo text c s → r ≡ s
-entering_two_unique text c (Paired.Got n k a) (Paired.Got m l b) x y =
+entering_two_unique text c (Some (n, k, a)) (Some (m, l, b)) x y =
     let u = taken_unique text c a b _ _ refl x y in
     let first = head_same u.0 in
     let second = head_same (tail_same u.0) in
     let next = u.1 in
-    λ i. Paired.Got (first i) (second i) (next i)
-entering_two_unique text c (Paired.Got n k a) Paired.Bad x y = absurd (y x.taken)
-entering_two_unique text c Paired.Bad (Paired.Got m l b) x y = absurd (x y.taken)
-entering_two_unique text c Paired.Bad Paired.Bad x y = refl
+    λ i. Some (first i, second i, next i)
+entering_two_unique text c (Some (n, k, a)) None x y = absurd (y x.taken)
+entering_two_unique text c None (Some (m, l, b)) x y = absurd (x y.taken)
+entering_two_unique text c None None x y = refl
 
 -- ---- a line of a word and a count
 
@@ -70,13 +69,13 @@ counted_unique word t x y =
     (front_unique word _ _ (sym own ∙ other)) in
     (head_same u.0, u.1)
 
-pub counting_unique : (text word : List ℕ) (c : Cursor) (r s : Numbered)
+pub counting_unique : (text word : List ℕ) (c : Cursor) (r s : Option (ℕ × Cursor))
     → Counting text word c r → Counting text word c s → r ≡ s
-counting_unique text word c (Numbered.Got n a) (Numbered.Got m b) x y =
+counting_unique text word c (Some (n, a)) (Some (m, b)) x y =
     let u = counted_unique word (drop c.at text) x.taken y.taken in
     let number = sym x.is_count ∙ u.0 ∙ y.is_count in
     let next = behind_unique text c a b _ _ u.1 x.behind y.behind in
-    λ i. Numbered.Got (number i) (next i)
-counting_unique text word c (Numbered.Got n a) Numbered.Bad x y = absurd (y x.capitals x.taken)
-counting_unique text word c Numbered.Bad (Numbered.Got m b) x y = absurd (x y.capitals y.taken)
-counting_unique text word c Numbered.Bad Numbered.Bad x y = refl
+    λ i. Some (number i, next i)
+counting_unique text word c (Some (n, a)) None x y = absurd (y x.capitals x.taken)
+counting_unique text word c None (Some (m, b)) x y = absurd (x y.capitals y.taken)
+counting_unique text word c None None x y = refl

@@ -9,12 +9,10 @@
 --     Spacing        what the question for a space answers
 --     Feeding        what the question for a line feed answers: behind it is the next line
 --     Wording        what the question for a word answers: it is taken if its letters are capital letters
-use Rattle.std.specs.Prelude.{◌≡◌, ◌⊎◌, List, [], ◌∷◌, ◌++◌, ℕ, ◌≤◌, ◌<◌, drop}
+use Rattle.std.specs.Prelude.{◌≡◌, ◌⊎◌, List, [], ◌∷◌, ◌++◌, Option, None, Some, ℕ, ◌≤◌, ◌<◌, drop}
 use Rattle.put.specs.Digits.{digit, digits}
 use Rattle.cursor.specs.declared.bytes.Kind.TheVariants.{Digit}
 use Rattle.cursor.specs.declared.Cursor.{Cursor}
-use Rattle.cursor.specs.declared.Numbered.{Numbered}
-use Rattle.cursor.specs.declared.Stepped.{Stepped}
 use Rattle.cursor.specs.Bytes.{kind_of, Capitals}
 use Rattle.cursor.specs.Steps.{Behind}
 
@@ -29,9 +27,9 @@ pub record DigitTaken (text : List ℕ) (c : Cursor) (d : ℕ) (next : Cursor) :
   pub begins : drop c.at text ≡ digit d ∷ drop next.at text
   pub same_line : next.line ≡ c.line
 
-abbrev pub Digiting : (text : List ℕ) (c : Cursor) → Numbered → Type 0
-Digiting text c (Numbered.Got d next) = DigitTaken text c d next
-Digiting text c Numbered.Bad = NoDigit (drop c.at text)
+abbrev pub Digiting : (text : List ℕ) (c : Cursor) → Option (ℕ × Cursor) → Type 0
+Digiting text c (Some (d, next)) = DigitTaken text c d next
+Digiting text c None = NoDigit (drop c.at text)
 
 abbrev pub Ended : (n : ℕ) (rest : List ℕ) → Type 0
 Ended n rest = (n ≡ 0) ⊎ (1000 ≤ n) ⊎ NoDigit rest
@@ -42,27 +40,27 @@ pub record NumberTaken (text t : List ℕ) (line n : ℕ) (next : Cursor) : Type
   pub ends : Ended n (drop next.at text)
   pub same_line : next.line ≡ line
 
-abbrev pub Numbering : (text t : List ℕ) (line : ℕ) → Numbered → Type 0
-Numbering text t line (Numbered.Got n next) = NumberTaken text t line n next
-Numbering text t line Numbered.Bad = NoDigit t
+abbrev pub Numbering : (text t : List ℕ) (line : ℕ) → Option (ℕ × Cursor) → Type 0
+Numbering text t line (Some (n, next)) = NumberTaken text t line n next
+Numbering text t line None = NoDigit t
 
 -- ---- other bytes: the space is byte 32, the line feed byte 10
 
-abbrev pub Spacing : (text : List ℕ) (c : Cursor) → Stepped → Type 0
-Spacing text c (Stepped.On next) =
+abbrev pub Spacing : (text : List ℕ) (c : Cursor) → Option Cursor → Type 0
+Spacing text c (Some next) =
     (drop c.at text ≡ 32 ∷ drop next.at text)
     × (next.line ≡ c.line)
-Spacing text c Stepped.Bad = (rest : List ℕ) → ¬ (drop c.at text ≡ 32 ∷ rest)
+Spacing text c None = (rest : List ℕ) → ¬ (drop c.at text ≡ 32 ∷ rest)
 
-abbrev pub Feeding : (text : List ℕ) (c : Cursor) → Stepped → Type 0
-Feeding text c (Stepped.On next) =
+abbrev pub Feeding : (text : List ℕ) (c : Cursor) → Option Cursor → Type 0
+Feeding text c (Some next) =
     (drop c.at text ≡ 10 ∷ drop next.at text)
     × Behind text c next (drop next.at text)
-Feeding text c Stepped.Bad = (rest : List ℕ) → ¬ (drop c.at text ≡ 10 ∷ rest)
+Feeding text c None = (rest : List ℕ) → ¬ (drop c.at text ≡ 10 ∷ rest)
 
-abbrev pub Wording : (text word : List ℕ) (c : Cursor) → Stepped → Type 0
-Wording text word c (Stepped.On next) =
+abbrev pub Wording : (text word : List ℕ) (c : Cursor) → Option Cursor → Type 0
+Wording text word c (Some next) =
     (drop c.at text ≡ word ++ drop next.at text)
     × Capitals word
     × (next.line ≡ c.line)
-Wording text word c Stepped.Bad = Capitals word → (rest : List ℕ) → ¬ (drop c.at text ≡ word ++ rest)
+Wording text word c None = Capitals word → (rest : List ℕ) → ¬ (drop c.at text ≡ word ++ rest)

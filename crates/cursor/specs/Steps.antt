@@ -8,12 +8,10 @@
 --                   `Counting` what the question for it answers
 --     EntryTaken    a line of these numbers was taken; `Entering` and `EnteringTwo` what the questions for a
 --                   line of one and of two numbers answer
-use Rattle.std.specs.Prelude.{◌≡◌, List, [], ◌∷◌, ℕ, suc, ◌≤◌, min, length, drop}
+use Rattle.std.specs.Prelude.{◌≡◌, List, [], ◌∷◌, Option, None, Some, ℕ, suc, ◌≤◌, min, length, drop}
 use Rattle.form.specs.Lines.{Counted, Entered}
 use Rattle.cursor.specs.Bytes.{Capitals}
 use Rattle.cursor.specs.declared.Cursor.{Cursor}
-use Rattle.cursor.specs.declared.Numbered.{Numbered}
-use Rattle.cursor.specs.declared.Paired.{Paired}
 
 abbrev pub line_limit : ℕ
 line_limit = 100000
@@ -29,19 +27,19 @@ pub record CountTaken (text word : List ℕ) (c : Cursor) (n : ℕ) (next : Curs
   pub is_count : taken.n ≡ n
   pub behind : Behind text c next taken.rest
 
-abbrev pub Counting : (text word : List ℕ) (c : Cursor) → Numbered → Type 0
-Counting text word c (Numbered.Got n next) = CountTaken text word c n next
-Counting text word c Numbered.Bad = Capitals word → ¬ Counted word (drop c.at text)
+abbrev pub Counting : (text word : List ℕ) (c : Cursor) → Option (ℕ × Cursor) → Type 0
+Counting text word c (Some (n, next)) = CountTaken text word c n next
+Counting text word c None = Capitals word → ¬ Counted word (drop c.at text)
 
 pub record EntryTaken (text : List ℕ) (c : Cursor) (e : List ℕ) (next : Cursor) : Type 0 where
   pub taken : Entered (length e) (drop c.at text)
   pub is_entry : taken.e ≡ e
   pub behind : Behind text c next taken.rest
 
-abbrev pub Entering : (text : List ℕ) (c : Cursor) → Numbered → Type 0
-Entering text c (Numbered.Got n next) = EntryTaken text c (n ∷ []) next
-Entering text c Numbered.Bad = ¬ Entered 1 (drop c.at text)
+abbrev pub Entering : (text : List ℕ) (c : Cursor) → Option (ℕ × Cursor) → Type 0
+Entering text c (Some (n, next)) = EntryTaken text c (n ∷ []) next
+Entering text c None = ¬ Entered 1 (drop c.at text)
 
-abbrev pub EnteringTwo : (text : List ℕ) (c : Cursor) → Paired → Type 0
-EnteringTwo text c (Paired.Got a b next) = EntryTaken text c (a ∷ b ∷ []) next
-EnteringTwo text c Paired.Bad = ¬ Entered 2 (drop c.at text)
+abbrev pub EnteringTwo : (text : List ℕ) (c : Cursor) → Option (ℕ × ℕ × Cursor) → Type 0
+EnteringTwo text c (Some (a, b, next)) = EntryTaken text c (a ∷ b ∷ []) next
+EnteringTwo text c None = ¬ Entered 2 (drop c.at text)

@@ -1,6 +1,6 @@
 // A text cursor by value (rules 7.2 to 7.5 and 7.10): where a reader stands, and the number of its line, from
 // 1. Each public method takes one line of the form that crate `form` says off the front of what is left of
-// the text, and hands back what it read with the next cursor, or `Bad` where no such line stands there. They
+// the text, and hands back what it read with the next cursor, or nothing where no such line stands there. They
 // take every cursor, every text and every word. Each step looks at the bytes from the cursor on and decides
 // on their kinds; a word's letters are capital letters before they are compared. A line feed is the only byte
 // behind which the line is another; lines are counted up to a limit, which no job text comes near.
@@ -22,27 +22,6 @@ pub struct Cursor {
     pub line: usize,
 }
 
-// A number, and where the text goes on behind what was read.
-#[derive(Drop)]
-pub enum Numbered {
-    Got(u16, Cursor),
-    Bad,
-}
-
-// Where the text goes on behind what was read.
-#[derive(Drop)]
-pub enum Stepped {
-    On(Cursor),
-    Bad,
-}
-
-// Two numbers, and where the text goes on behind what was read.
-#[derive(Drop)]
-pub enum Paired {
-    Got(u16, u16, Cursor),
-    Bad,
-}
-
 impl Cursor {
     // Lines are counted up to here.
     pub const LINES: usize = 100000;
@@ -55,38 +34,38 @@ impl Cursor {
     }
 
     // One digit, by its value.
-    fn digit(self, text: &[u8]) -> Numbered
+    fn digit(self, text: &[u8]) -> Option<(u16, Cursor)>
         ensures { Digiting text.now self result }
     {
         let at = self.at;
         let line = self.line;
         if text.len() <= at {
-            return Numbered::Bad;
+            return None;
         }
         let b = text[at];
         let next = at + 1;
         if let Kind::Digit = Kind::of(b) {
-            Numbered::Got((b - 48) as u16, Cursor { at: next, line })
+            Some(((b - 48) as u16, Cursor { at: next, line }))
         } else {
-            Numbered::Bad
+            None
         }
     }
 
     // One space.
-    fn space(self, text: &[u8]) -> Stepped
+    fn space(self, text: &[u8]) -> Option<Cursor>
         ensures { Spacing text.now self result }
     {
         let at = self.at;
         let line = self.line;
         if text.len() <= at {
-            return Stepped::Bad;
+            return None;
         }
         let b = text[at];
         let next = at + 1;
         if let Kind::Space = Kind::of(b) {
-            Stepped::On(Cursor { at: next, line })
+            Some(Cursor { at: next, line })
         } else {
-            Stepped::Bad
+            None
         }
     }
 
@@ -101,25 +80,25 @@ impl Cursor {
     }
 
     // One line feed: behind it begins another line.
-    fn line_feed(self, text: &[u8]) -> Stepped
+    fn line_feed(self, text: &[u8]) -> Option<Cursor>
         ensures { Feeding text.now self result }
     {
         let at = self.at;
         let line = self.next_line();
         if text.len() <= at {
-            return Stepped::Bad; // The last line ends with a line feed too.
+            return None; // The last line ends with a line feed too.
         }
         let b = text[at];
         let next = at + 1;
         if let Kind::LineFeed = Kind::of(b) {
-            Stepped::On(Cursor { at: next, line })
+            Some(Cursor { at: next, line })
         } else {
-            Stepped::Bad
+            None
         }
     }
 
     // Up to three further digits of a number that begins with `first`.
-    fn more(self, text: &[u8], first: u16) -> Numbered
+    fn more(self, text: &[u8], first: u16) -> Option<(u16, Cursor)>
         requires { (1 ≤ first) × (first < 10) }
         ensures { Numbering text.now
             (digits first ++ drop self.at text.now)
@@ -130,41 +109,33 @@ impl Cursor {
         let mut here = self;
         let mut left: usize = 3;
         while left > 0 {
-            match here.digit(text) {
-                Numbered::Got(d, next) => {
-                    value = value * 10 + d;
-                    here = next;
-                    left -= 1;
-                }
-                Numbered::Bad => {
-                    return Numbered::Got(value, here);
-                }
-            }
+            let Some((d, next)) = here.digit(text) else {
+                return Some((value, here));
+            };
+            value = value * 10 + d;
+            here = next;
+            left -= 1;
         }
-        Numbered::Got(value, here)
+        Some((value, here))
     }
 
     // A number of one to four digits, with no leading zero but 0 itself.
-    fn number(self, text: &[u8]) -> Numbered
+    fn number(self, text: &[u8]) -> Option<(u16, Cursor)>
         ensures { Numbering text.now
             (drop self.at text.now)
             self.line
             result }
     {
-        match self.digit(text) {
-            Numbered::Got(d, next) => {
-                if d == 0 {
-                    Numbered::Got(0, next)
-                } else {
-                    next.more(text, d)
-                }
-            }
-            Numbered::Bad => Numbered::Bad,
+        let (d, next) = self.digit(text)?;
+        if d == 0 {
+            Some((0, next))
+        } else {
+            next.more(text, d)
         }
     }
 
     // The letters of a word.
-    fn word(self, text: &[u8], word: &[u8]) -> Stepped
+    fn word(self, text: &[u8], word: &[u8]) -> Option<Cursor>
         ensures { Wording text.now word.now self result }
     {
         let letters = word.len();
@@ -173,61 +144,47 @@ impl Cursor {
         let mut i = 0;
         while i < letters {
             if text.len() <= at {
-                return Stepped::Bad;
+                return None;
             }
             let b = text[at];
             if let Kind::Capital = Kind::of(b) {
                 if b != word[i] {
-                    return Stepped::Bad;
+                    return None;
                 }
                 at += 1;
                 i += 1;
             } else {
-                return Stepped::Bad;
+                return None;
             }
         }
-        Stepped::On(Cursor { at, line })
+        Some(Cursor { at, line })
     }
 
     // A line of one number.
-    pub fn one(self, text: &[u8]) -> Numbered
+    pub fn one(self, text: &[u8]) -> Option<(u16, Cursor)>
         ensures { Entering text.now self result }
     {
-        match self.number(text) {
-            Numbered::Got(n, behind) => match behind.line_feed(text) {
-                Stepped::On(next) => Numbered::Got(n, next),
-                Stepped::Bad => Numbered::Bad,
-            },
-            Numbered::Bad => Numbered::Bad,
-        }
+        let (n, behind) = self.number(text)?;
+        let next = behind.line_feed(text)?;
+        Some((n, next))
     }
 
     // A line of two numbers.
-    pub fn pair(self, text: &[u8]) -> Paired
+    pub fn pair(self, text: &[u8]) -> Option<(u16, u16, Cursor)>
         ensures { EnteringTwo text.now self result }
     {
-        match self.number(text) {
-            Numbered::Got(a, behind) => match behind.space(text) {
-                Stepped::On(second) => match second.one(text) {
-                    Numbered::Got(b, next) => Paired::Got(a, b, next),
-                    Numbered::Bad => Paired::Bad,
-                },
-                Stepped::Bad => Paired::Bad,
-            },
-            Numbered::Bad => Paired::Bad,
-        }
+        let (a, behind) = self.number(text)?;
+        let second = behind.space(text)?;
+        let (b, next) = second.one(text)?;
+        Some((a, b, next))
     }
 
     // A line of a word and a count. A word with another letter than a capital one stands nowhere.
-    pub fn count(self, text: &[u8], word: &[u8]) -> Numbered
+    pub fn count(self, text: &[u8], word: &[u8]) -> Option<(u16, Cursor)>
         ensures { Counting text.now word.now self result }
     {
-        match self.word(text, word) {
-            Stepped::On(behind) => match behind.space(text) {
-                Stepped::On(second) => second.one(text),
-                Stepped::Bad => Numbered::Bad,
-            },
-            Stepped::Bad => Numbered::Bad,
-        }
+        let behind = self.word(text, word)?;
+        let second = behind.space(text)?;
+        second.one(text)
     }
 }
