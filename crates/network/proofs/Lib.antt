@@ -4,5 +4,6 @@ pub mod Tests
 pub mod LaneList
 pub mod ClosedList
 pub mod EntryKinds
+pub mod EachEntry
 pub mod SoundMove
 pub mod Unique

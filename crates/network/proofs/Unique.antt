@@ -7,7 +7,8 @@ use mathlib.Core.Path.{◌≡◌}
 use mathlib.Core.Bool.{Bool}
 use mathlib.Core.List.{List, [], ◌∷◌}
 use Prim.Native.Nat.{ℕ}
-use Rattle.hall.specs.declared.Checked.{Checked}
+use Rattle.std.specs.Prelude.{Result}
+use Rattle.hall.specs.declared.Refusal.{Refusal}
 use Rattle.hall.specs.Floor.{Network, Closed}
 use Rattle.hall.specs.Job.{Numbers}
 use Rattle.hall.specs.Rule.{Answers}
@@ -21,7 +22,7 @@ use Rattle.network.specs.declared.entries.Entries.{Entries}
 use Rattle.network.specs.Entries.{each_in}
 
 abbrev pub OneAnswer : Question → Type 0
-OneAnswer q = (c d : Checked) → Judged q c → Judged q d → c ≡ d
+OneAnswer q = (c d : Result Unit Refusal) → Judged q c → Judged q d → c ≡ d
 
 pub check_counts_unique : (nodes numbers_of_lanes closed carriers order dwell : ℕ) →
     OneAnswer (counts nodes numbers_of_lanes closed carriers order dwell)

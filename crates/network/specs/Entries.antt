@@ -1,14 +1,18 @@
 -- The four lists of a job that have entries, and what is asked of each entry (rule 8.22). One definition goes
--- by the kind of list, so that one loop serves all four: of the lanes `each_in` is hall's `each_lane`, of the
--- closed nodes `each_closed`, of the moves `each_move` and of the places of the order `each_order_place`, each by
--- definition.
+-- by the kind of list: of the lanes `each_in` is hall's `each_lane`, of the closed nodes `each_closed`, of the
+-- moves `each_move` and of the places of the order `each_order_place`, each by definition. And what the loop
+-- over the entries of a list answers, whatever the check of an entry is.
 --     checks_in    the checks of an entry of the list: 3 of a lane, 12 of a closed node, 4, 5 and 13 of a
 --                 move, 7 of a place of the order. Only those of moves look at the closed nodes, and only
 --                 those of places at how many carriers there are
 --     places_in    how many entries the list has: a lane and a move have two numbers, and an odd last number
 --                 is no entry
 --     each_in      these checks at each entry of the list, one stage
-use Rattle.std.specs.Prelude.{List, ℕ, length}
+--     RefusedAt    the check of entry k refuses, and that of no entry before it does
+--     FirstRefused    of so many checks, each of which has an answer at its place: every one is passed, or the
+--                 answer is the refusal of the first that is not
+use Rattle.std.specs.Prelude.{List, ℕ, ◌<◌, length, Result, Ok, Err}
+use Rattle.hall.specs.declared.Refusal.{Refusal}
 use Rattle.hall.specs.Floor.{lanes_in}
 use Rattle.hall.specs.Job.{move_count}
 use Rattle.hall.specs.Stages.{Stage, at_each}
@@ -31,3 +35,13 @@ places_in Places list = length list
 abbrev pub each_in : Entries → (nodes carriers : ℕ) (closed list : List ℕ) → Stage
 each_in which nodes carriers closed list =
     at_each (places_in which list) (checks_in which nodes carriers closed list)
+
+pub record RefusedAt (Answer : ℕ → Result Unit Refusal → Type 0) (count : ℕ) (r : Refusal) : Type 0 where
+  pub k : ℕ
+  pub inside : k < count
+  pub refused : Answer k (Err r)
+  pub before : (j : ℕ) → j < k → Answer j (Ok tt)
+
+abbrev pub FirstRefused : (Answer : ℕ → Result Unit Refusal → Type 0) (count : ℕ) → Result Unit Refusal → Type 0
+FirstRefused Answer count (Ok u) = (k : ℕ) → k < count → Answer k (Ok tt)
+FirstRefused Answer count (Err r) = RefusedAt Answer count r

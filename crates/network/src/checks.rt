@@ -8,25 +8,27 @@
 //
 // The checks of one entry stand by themselves, so that a reader can ask them of what it has stored. An entry
 // that is not there has no fault.
-ghost use Rattle.std.specs.Prelude.{◌≡◌, ◌<◌, length, get_or};
-ghost use Rattle.hall.specs.Floor.{network_of};
-ghost use Rattle.hall.specs.Job.{job_of};
+ghost use Rattle.std.specs.Prelude.{◌≡◌, ◌<◌, length, get_or, Err};
+ghost use Rattle.hall.specs.Floor.{network_in};
+ghost use Rattle.hall.specs.Job.{job_in};
 ghost use Rattle.hall.specs.Rule.{Answers};
 ghost use Rattle.hall.specs.Stages.{only_at};
 ghost use Rattle.hall.specs.Said.{Judged};
 ghost use Rattle.hall.specs.Refusals.{BadOrder-at};
 ghost use Rattle.hall.specs.Questions.{counts, each_move, each_order_place};
-ghost use Rattle.hall.specs.Questions.{network_question, moves_question, checks_question, ends, move_ends};
+ghost use Rattle.hall.specs.Questions.{network_question, moves_question, checks_question};
+ghost use Rattle.hall.specs.Questions.{ends as ends_checks, move_ends};
 
-use crate::closed::is_closed;
-use crate::entries::{Entries, check_each};
-use hall::{Checked, Fault, Job, Place, Refusal};
+use crate::closed::{check_closed_node, is_closed};
+use crate::entries::check_each;
+use crate::lanes::check_lane;
+use hall::{Ends, Fault, Job, JobNumbers, Network, Place, Refusal};
 
 // The refusal with a fault at a place.
-pub(crate) fn refused(fault: Fault, place: usize) -> Checked
-    ensures { result ≡ Checked.Refused (record { fault = fault; place = place }) }
+pub(crate) fn refused(fault: Fault, place: usize) -> Result<(), Refusal>
+    ensures { result ≡ Err (record { fault = fault; place = place }) }
 {
-    Checked::Refused(Refusal::new(fault, place))
+    Err(Refusal::new(fault, place))
 }
 
 // 2: the counts of nodes, lanes, closed nodes, carriers and order places, and the dwell. The lanes' is the
@@ -38,7 +40,7 @@ pub fn check_counts(
     carriers: usize,
     order: usize,
     dwell: usize,
-) -> Checked
+) -> Result<(), Refusal>
     ensures { Judged (counts nodes lane_numbers closed carriers order dwell) result }
 {
     let fault = Fault::BadCount;
@@ -66,7 +68,7 @@ pub fn check_counts(
     if dwell > Job::DWELL {
         return refused(fault, 5);
     }
-    Checked::Sound
+    Ok(())
 }
 
 // The number at a place of a list; 0 past its end.
@@ -81,9 +83,10 @@ pub(crate) fn number_at(list: &[u16], at: usize) -> u16
 
 // 4, 5 and 13, of one move at the place i: its ends are nodes, differ and are not closed. `fault` is the one
 // that is looked for.
-pub fn check_ends(nodes: usize, closed: &[u16], start: u16, goal: u16, i: usize) -> Checked
-    ensures { Judged (only_at i (ends nodes closed.now (λ p. start) (λ p. goal))) result }
+pub fn check_ends(nodes: usize, closed: &[u16], ends: Ends, i: usize) -> Result<(), Refusal>
+    ensures { Judged (only_at i (ends_checks nodes closed.now (λ p. ends.start) (λ p. ends.goal))) result }
 {
+    let Ends { start, goal } = ends;
     let mut fault = Fault::NoNode;
     if start as usize >= nodes {
         return refused(fault, i);
@@ -102,20 +105,20 @@ pub fn check_ends(nodes: usize, closed: &[u16], start: u16, goal: u16, i: usize)
     if is_closed(closed, goal) {
         return refused(fault, i);
     }
-    Checked::Sound
+    Ok(())
 }
 
 // 4, 5 and 13, of the move i. No other move is looked at.
-pub fn check_entry(nodes: usize, closed: &[u16], moves: &[u16], i: usize) -> Checked
+pub fn check_entry(nodes: usize, closed: &[u16], moves: &[u16], i: usize) -> Result<(), Refusal>
     ensures { Judged (only_at i (each_move nodes closed.now moves.now)) result }
 {
     if i >= moves.len() / 2 {
-        return Checked::Sound;
+        return Ok(());
     }
     let at = 2 * i;
     let start = number_at(moves, at);
     let goal = number_at(moves, at + 1);
-    check_ends(nodes, closed, start, goal, i)
+    check_ends(nodes, closed, Ends { start, goal }, i)
 }
 
 // 7, at place p of the order, if it has such a place: the entry is no carrier's number, or stands earlier.
@@ -142,103 +145,64 @@ fn order_fault(carriers: usize, order: &[u16], p: usize) -> bool
 }
 
 // 7, of one place of the order: its entry is a carrier's number, and stands at no earlier place.
-pub fn check_place(carriers: usize, order: &[u16], place: Place) -> Checked
+pub fn check_place(carriers: usize, order: &[u16], place: Place) -> Result<(), Refusal>
     ensures { Judged (only_at place.0 (each_order_place carriers order.now)) result }
 {
     let p = place.0;
     if order_fault(carriers, order, p) {
         return refused(Fault::BadOrder, p);
     }
-    Checked::Sound
+    Ok(())
 }
 
 // A job up to its order's entries: its counts and its dwell (2), its lanes (3), its closed nodes (12), its
 // moves one after the other (4, 5 and 13). Of the order only the length is looked at.
-pub fn check_moves(
-    nodes: usize,
-    lanes: &[u16],
-    closed: &[u16],
-    moves: &[u16],
-    order: &[u16],
-    dwell: usize,
-) -> Checked
-    ensures { Judged
-        (moves_question
-        (job_of
-        (network_of nodes lanes.now closed.now)
-        moves.now
-        order.now
-        dwell))
-        result }
+pub fn check_moves(job: &JobNumbers) -> Result<(), Refusal>
+    ensures { Judged (moves_question (job_in job.now)) result }
 {
+    let Network { nodes, lanes, closed } = job.network;
+    let moves = job.moves;
     let carriers = moves.len() / 2;
-    let mut told = check_counts(
+    check_counts(
         nodes,
         lanes.len(),
         closed.len(),
         carriers,
-        order.len(),
-        dwell,
-    );
-    if let Checked::Refused(_) = told {
-        return told;
-    }
-    told = check_each(Entries::Lanes, nodes, carriers, closed, lanes);
-    if let Checked::Refused(_) = told {
-        return told;
-    }
-    told = check_each(Entries::Closed, nodes, carriers, closed, closed);
-    if let Checked::Refused(_) = told {
-        return told;
-    }
-    check_each(Entries::Moves, nodes, carriers, closed, moves)
+        job.order.len(),
+        job.dwell,
+    )?;
+    check_each(lanes.len() / 2, |k| check_lane(nodes, lanes, k))?;
+    check_each(closed.len(), |k| check_closed_node(nodes, closed, k))?;
+    check_each(carriers, |i| check_entry(nodes, closed, moves, i))
 }
 
 // A whole job: the same, then its order (7).
-pub fn check_job(
-    nodes: usize,
-    lanes: &[u16],
-    closed: &[u16],
-    moves: &[u16],
-    order: &[u16],
-    dwell: usize,
-) -> Checked
-    ensures { Judged
-        (checks_question
-        (job_of
-        (network_of nodes lanes.now closed.now)
-        moves.now
-        order.now
-        dwell))
-        result }
+pub fn check_job(job: &JobNumbers) -> Result<(), Refusal>
+    ensures { Judged (checks_question (job_in job.now)) result }
 {
-    let carriers = moves.len() / 2;
-    let told = check_moves(nodes, lanes, closed, moves, order, dwell);
-    if let Checked::Refused(_) = told {
-        return told;
-    }
-    check_each(Entries::Places, nodes, carriers, closed, order)
+    check_moves(job)?;
+    let carriers = job.moves.len() / 2;
+    let order = job.order;
+    check_each(order.len(), |p| check_place(carriers, order, Place(p)))
 }
 
 // A network alone: 2 (nodes, lanes, closed nodes), then 3, then 12. It is checked as the job on it that has
 // no carriers, of which nothing more is asked that could fail.
-pub fn check_network(nodes: usize, lanes: &[u16], closed: &[u16]) -> Checked
-    ensures { Judged
-        (network_question (network_of nodes lanes.now closed.now))
-        result }
+pub fn check_network(network: &Network) -> Result<(), Refusal>
+    ensures { Judged (network_question (network_in network.now)) result }
 {
-    check_moves(nodes, lanes, closed, &[], &[], 0)
+    check_moves(&JobNumbers {
+        network: *network,
+        moves: &[],
+        order: &[],
+        dwell: 0,
+    })
 }
 
 // A network and one move, whose place is 0: 2, 3, 12, then 4, 5 and 13.
-pub fn check_move(nodes: usize, lanes: &[u16], closed: &[u16], start: u16, goal: u16) -> Checked
-    ensures { Judged
-        (move_ends (network_of nodes lanes.now closed.now) start goal)
-        result }
+pub fn check_move(network: &Network, ends: Ends) -> Result<(), Refusal>
+    ensures { Judged (move_ends (network_in network.now) ends.start ends.goal) result }
 {
-    let network = check_network(nodes, lanes, closed);
-    if let Checked::Refused(_) = network {
-        return network;
-    }
-    check_ends(nodes, closed, start, goal, 0)
+    check_network(network)?;
+    check_ends(network.nodes, network.closed, ends, 0)
 }

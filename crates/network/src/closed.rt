@@ -10,7 +10,7 @@ ghost use Rattle.hall.specs.Refusals.{ClosedFault};
 ghost use Rattle.hall.specs.Questions.{each_closed};
 
 use crate::checks::{number_at, refused};
-use hall::{Checked, Fault};
+use hall::{Fault, Refusal};
 
 // Whether a node stands in a list of closed nodes, which need not rise. It goes through the whole list, in
 // steps that can be done side by side: where a job is sound no entry is the node, and nothing would end it
@@ -49,11 +49,11 @@ fn closed_fault(nodes: usize, closed: &[u16], k: usize) -> bool
 }
 
 // 12, of the entry k: it is a node, and exceeds the one before.
-pub fn check_closed_node(nodes: usize, closed: &[u16], k: usize) -> Checked
+pub fn check_closed_node(nodes: usize, closed: &[u16], k: usize) -> Result<(), Refusal>
     ensures { Judged (only_at k (each_closed nodes closed.now)) result }
 {
     if closed_fault(nodes, closed, k) {
         return refused(Fault::BadClosed, k);
     }
-    Checked::Sound
+    Ok(())
 }

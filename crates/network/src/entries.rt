@@ -1,16 +1,16 @@
-// The entries of a job's four lists, checked one after the other. Lanes, closed nodes, moves and places of
-// the order differ in what is asked of an entry and in how many numbers it takes, and in nothing else: so the
-// kind of list is a parameter, and the loop over its entries stands once. Lists of any length may be put, and
-// an entry that is not there has no fault.
-ghost use Rattle.std.specs.Prelude.{[], ◌∷◌};
+// The entries of a job's four lists. Lanes, closed nodes, moves and places of the order differ in what is asked
+// of an entry and in how many numbers it takes, and in nothing else: so the check of an entry is a parameter of
+// the loop over a list, which stands once; and a reader, which checks the entries of the four lists in one
+// place, puts the kind of list instead. Lists of any length may be put, and an entry that is not there has no
+// fault.
 ghost use Rattle.hall.specs.Stages.{only_at};
 ghost use Rattle.hall.specs.Said.{Judged};
-ghost use Rattle.network.specs.Entries.{each_in};
+ghost use Rattle.network.specs.Entries.{each_in, FirstRefused};
 
 use crate::checks::{check_entry, check_place};
 use crate::closed::check_closed_node;
 use crate::lanes::check_lane;
-use hall::{Checked, Place};
+use hall::{Place, Refusal};
 
 // Whose entries: a lane and a move have two numbers, a closed node and a place of the order have one.
 #[derive(Clone, Copy)]
@@ -30,7 +30,7 @@ pub fn check_one(
     closed: &[u16],
     list: &[u16],
     k: usize,
-) -> Checked
+) -> Result<(), Refusal>
     ensures { Judged
         (only_at k (each_in which nodes carriers closed.now list.now))
         result }
@@ -43,30 +43,13 @@ pub fn check_one(
     }
 }
 
-// The checks of every entry of the list: the first fault, with its place.
-pub fn check_each(
-    which: Entries,
-    nodes: usize,
-    carriers: usize,
-    closed: &[u16],
-    list: &[u16],
-) -> Checked
-    ensures { Judged
-        (each_in which nodes carriers closed.now list.now ∷ [])
-        result }
+// The check of every entry of a list that has so many: the first refusal.
+pub fn check_each<F: Fn(usize) -> Result<(), Refusal>>(count: usize, check: F) -> Result<(), Refusal>
+    requires { F.IsAlwaysCallable check }
+    ensures { FirstRefused (F.post check) count result }
 {
-    let numbers = list.len();
-    let count = match which {
-        Entries::Lanes | Entries::Moves => numbers / 2,
-        Entries::Closed | Entries::Places => numbers,
-    };
-    let mut k: usize = 0;
-    while k < count {
-        let one = check_one(which, nodes, carriers, closed, list, k);
-        if let Checked::Refused(_) = one {
-            return one;
-        }
-        k += 1;
+    for k in 0..count {
+        check(k)?;
     }
-    Checked::Sound
+    Ok(())
 }

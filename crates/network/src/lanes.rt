@@ -9,7 +9,7 @@ ghost use Rattle.hall.specs.Refusals.{LaneFault};
 ghost use Rattle.hall.specs.Questions.{each_lane};
 
 use crate::checks::{number_at, refused};
-use hall::{Checked, Fault};
+use hall::{Fault, Refusal};
 
 // 3, at the lane k of the list, if there is such a lane. The higher end alone is held against the node count,
 // since the lower one is below it.
@@ -41,11 +41,11 @@ fn lane_fault(nodes: usize, lanes: &[u16], k: usize) -> bool
 }
 
 // 3, of the lane k: its ends are nodes, the first below the second, and it exceeds the one before.
-pub fn check_lane(nodes: usize, lanes: &[u16], k: usize) -> Checked
+pub fn check_lane(nodes: usize, lanes: &[u16], k: usize) -> Result<(), Refusal>
     ensures { Judged (only_at k (each_lane nodes lanes.now)) result }
 {
     if lane_fault(nodes, lanes, k) {
         return refused(Fault::BadLane, k);
     }
-    Checked::Sound
+    Ok(())
 }

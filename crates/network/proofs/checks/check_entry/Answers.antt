@@ -1,7 +1,7 @@
 -- 4, 5 and 13 as `check_ends` answers of the two numbers that are read: what is asked of two numbers is asked of
 -- the move whose numbers they are.
-use Rattle.std.proofs.Common.{◌≡◌, subst, List, ℕ, ◌<◌}
-use Rattle.hall.specs.declared.Checked.{Checked}
+use Rattle.std.proofs.Common.{◌≡◌, subst, List, ℕ, ◌<◌, Result}
+use Rattle.hall.specs.declared.Refusal.{Refusal}
 use Rattle.hall.specs.Job.{move_count, start_in, goal_in}
 use Rattle.hall.specs.Stages.{only_at}
 use Rattle.hall.specs.Said.{Judged}
@@ -10,7 +10,7 @@ use Rattle.hall.proofs.Compose.{⇒-judged}
 use Rattle.network.proofs.Questions.{each_inside}
 use Rattle.network.proofs.checks.check_entry.Goals as goal
 
-of-the-move : (nodes : ℕ) (closed moves : List ℕ) (i start goal : ℕ) (c : Checked) →
+of-the-move : (nodes : ℕ) (closed moves : List ℕ) (i start goal : ℕ) (c : Result Unit Refusal) →
     i < move_count moves → start ≡ start_in moves i → goal ≡ goal_in moves i →
     Judged (only_at i (ends nodes closed (λ p. start) (λ p. goal))) c →
     Judged (only_at i (each_move nodes closed moves)) c
