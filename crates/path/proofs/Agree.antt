@@ -8,8 +8,8 @@ use Prim.Native.Nat.{ℕ, zero, suc, ◌≤◌}
 use native.Mathlib.Numerals.{add-one}
 use native.Mathlib.Omega.{arith}
 use lib.ListN.{get_or, take}
-use Rattle.hall.specs.declared.Checked.{Checked}
-use Rattle.hall.specs.declared.Checked.TheVariants.{Sound}
+use Rattle.std.specs.Prelude.{Result, Ok, Err}
+use Rattle.hall.specs.declared.Refusal.{Refusal}
 use Rattle.hall.specs.Floor.{Floor, Network}
 use Rattle.hall.specs.Path.{PathOf, ShortestPath, HousePath}
 use Rattle.hall.specs.Stages.{None}
@@ -19,18 +19,17 @@ use Rattle.hall.proofs.House.{next_le}
 use Rattle.hall.proofs.Stages.{judged_unique}
 use Rattle.hall.proofs.Compose.{sound_none}
 use Rattle.hall.proofs.Places.{none_asked}
-use Rattle.path.specs.declared.Housed.TheVariants.{Nodes}
 use Rattle.path.specs.Paths.{Unfit, House, HouseAnswer, ListAnswer, Passes, NodeByNode}
 use Rattle.path.proofs.Listed.{passes_none, none_passes}
 
 -- ---- a list is found sound exactly if it passes
 
-module _ {N N' : Network} {s g : ℕ} {list list' : List ℕ} {r : Checked} where
-  pub passes_sound : Passes N s g list → ListAnswer N N' s g list list' r → r ≡ Sound
+module _ {N N' : Network} {s g : ℕ} {list list' : List ℕ} {r : Result Unit Refusal} where
+  pub passes_sound : Passes N s g list → ListAnswer N N' s g list list' r → r ≡ Ok tt
   passes_sound p a =
-      judged_unique (list_of_move N s g (Unfit N s g list)) r Sound a.judged (passes_none N s g list p)
+      judged_unique (list_of_move N s g (Unfit N s g list)) r (Ok tt) a.judged (passes_none N s g list p)
 
-  pub sound_passes : r ≡ Sound → ListAnswer N N' s g list list' r → Passes N s g list
+  pub sound_passes : r ≡ Ok tt → ListAnswer N N' s g list list' r → Passes N s g list
   sound_passes e a =
       none_passes N s g list (sound_none (list_of_move N s g (Unfit N s g list)) e a.judged)
 
@@ -45,9 +44,9 @@ module _ {N : Network} {s g : ℕ} {path path' : List ℕ} {count : ℕ} where
   }
 
   -- so the question about one list finds it sound
-  pub house_judged : {N' N'' : Network} {list' : List ℕ} {r : Checked} →
-      HouseAnswer N N' s g path path' (Nodes count) → ListAnswer N N'' s g (take count path') list' r
-      → r ≡ Sound
+  pub house_judged : {N' N'' : Network} {list' : List ℕ} {r : Result Unit Refusal} →
+      HouseAnswer N N' s g path path' (Ok count) → ListAnswer N N'' s g (take count path') list' r
+      → r ≡ Ok tt
   house_judged a = passes_sound (house_passes (none_asked a.given.0).1 a.given.1)
 
 module _ {F : Floor} {s g d : ℕ} {l l' : List ℕ} (h : HousePath F s g d l) (p : ShortestPath F s g l') where

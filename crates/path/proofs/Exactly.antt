@@ -11,15 +11,14 @@ use Prim.Native.Nat.{ℕ, ◌<◌}
 use native.Mathlib.Omega.{arith}
 use lib.ListN.{length}
 use denote.Ref.{Bor}
-use Rattle.hall.specs.declared.Checked.{Checked}
-use Rattle.hall.specs.declared.Checked.TheVariants.{Sound}
+use Rattle.std.specs.Prelude.{Result, Ok, Err}
+use Rattle.hall.specs.declared.Refusal.{Refusal}
 use Rattle.hall.specs.Limits.{node_limit}
 use Rattle.hall.specs.Floor.{Network}
 use Rattle.hall.specs.Stages.{Question, First, None}
 use Rattle.hall.specs.Said.{Said, accepted, refused, Fits, said_checked}
 use Rattle.hall.specs.Questions.{house_of_move, list_of_move}
 use Rattle.hall.proofs.Stages.{none_excludes, refused_exactly}
-use Rattle.path.specs.declared.Housed.{Housed}
 use Rattle.path.specs.Paths.{Unfit, said_housed, HouseLeft, HouseAnswer, ListAnswer, Passes}
 use Rattle.path.specs.Paths.{Chosen, own_list, spare_list, neither, ChoiceAnswer}
 use Rattle.path.proofs.Listed.{passes_none, none_passes}
@@ -47,7 +46,7 @@ module _ (q : Question) (N : Network) (s g : ℕ) (path path' : List ℕ) where
       back (accepted count) fits none = (count, λ i. accepted count)
       back (refused n p) fits none = absurd (none_excludes fits none)
 
-module _ {N N' : Network} {s g : ℕ} {path path' : List ℕ} (r : Housed)
+module _ {N N' : Network} {s g : ℕ} {path path' : List ℕ} (r : Result ℕ Refusal)
     (a : HouseAnswer N N' s g path path' r) where
   pub house_refused_exactly : (n p : ℕ)
       → (said_housed r ≡ refused n p) ↔ First (house_of_move (length path < node_limit) N s g) n p
@@ -67,13 +66,13 @@ pub passes_exactly : (N : Network) (s g : ℕ) (list : List ℕ)
     → Passes N s g list ↔ None (list_of_move N s g (Unfit N s g list))
 passes_exactly N s g list = (passes_none N s g list, none_passes N s g list)
 
-module _ {N N' : Network} {s g : ℕ} {list list' : List ℕ} (r : Checked)
+module _ {N N' : Network} {s g : ℕ} {list list' : List ℕ} (r : Result Unit Refusal)
     (a : ListAnswer N N' s g list list' r) where
   pub list_refused_exactly : (n p : ℕ)
       → (said_checked r ≡ refused n p) ↔ First (list_of_move N s g (Unfit N s g list)) n p
   list_refused_exactly = refused_exactly (said_checked r) a.judged
 
-  pub list_sound_exactly : (r ≡ Sound) ↔ Passes N s g list
+  pub list_sound_exactly : (r ≡ Ok tt) ↔ Passes N s g list
   list_sound_exactly = (λ e. sound_passes e a, λ p. passes_sound p a)
 
 -- ---- the choice

@@ -9,8 +9,7 @@ use native.Mathlib.Omega.{arith}
 use lib.ListN.{length, get_or}
 use Rattle.hall.specs.declared.Fault.TheVariants.{ShortTable}
 use Rattle.hall.specs.declared.Refusal.{Refusal}
-use Rattle.hall.specs.declared.Checked.{Checked}
-use Rattle.hall.specs.declared.Checked.TheVariants.{Refused}
+use Rattle.std.specs.Prelude.{Result, Ok, Err}
 use Rattle.hall.specs.Limits.{node_limit}
 use Rattle.hall.specs.Floor.{Network}
 use Rattle.hall.specs.Numbers.{number_of}
@@ -35,8 +34,8 @@ module _ (q : Question) (N : Network) (s g : ℕ) (path : List ℕ) where
     not_short : ¬ (length path < node_limit)
     not_short h = omega arith
 
-    pub left_refused : {c : Checked} {r : Refusal} {path' : List ℕ} →
-        Among NotNine q → c ≡ Refused r → Judged q c → path' ≡ zeroed node_limit path
+    pub left_refused : {c : Result Unit Refusal} {r : Refusal} {path' : List ℕ} →
+        Among NotNine q → c ≡ Err r → Judged q c → path' ≡ zeroed node_limit path
         → HouseLeft (short_table (length path < node_limit) ∷ q) N s g path path' (said_refusal r)
     left_refused others told judged e =
         let first = refused_first q told judged in

@@ -14,8 +14,7 @@ use native.Mathlib.Omega.{arith}
 use borrow.Author.Count.{below_more}
 use lib.ListN.{length, get_or}
 use Rattle.hall.specs.declared.Refusal.{Refusal}
-use Rattle.hall.specs.declared.Checked.{Checked}
-use Rattle.hall.specs.declared.Checked.TheVariants.{Refused}
+use Rattle.std.specs.Prelude.{Result, Ok, Err}
 use Rattle.hall.specs.declared.Fault.TheVariants.{Unreachable, NotShortest}
 use Rattle.hall.specs.Floor.{Dist, NoWalk, Lane, Network, Open, floor}
 use Rattle.hall.specs.Path.{PathOf, ShortestPath}
@@ -205,7 +204,7 @@ module _ (N : Network) (s g : ℕ) (list : List ℕ) where
       by_distance (inr no_way) = absurd (walk_of_none parts.0 no_way)
 
   -- and a list that the question refuses does not pass
-  pub refused_fails : {c : Checked} {r : Refusal} →
-      c ≡ Refused r → Judged (list_of_move N s g (Unfit N s g list)) c → ¬ Passes N s g list
+  pub refused_fails : {c : Result Unit Refusal} {r : Refusal} →
+      c ≡ Err r → Judged (list_of_move N s g (Unfit N s g list)) c → ¬ Passes N s g list
   refused_fails e a p =
       none_excludes (refused_first (list_of_move N s g (Unfit N s g list)) e a) (passes_none p)

@@ -9,7 +9,7 @@ use Prim.Native.Nat.{ℕ, ◌<◌}
 use native.Mathlib.Omega.{arith}
 use lib.ListN.{length, get_or}
 use Rattle.hall.specs.declared.Fault.TheVariants.{Unreachable}
-use Rattle.hall.specs.declared.Checked.TheVariants.{Sound, Refused}
+use Rattle.std.specs.Prelude.{Result, Ok, Err}
 use Rattle.hall.specs.Limits.{node_limit, no_walk_mark}
 use Rattle.hall.specs.Floor.{Network}
 use Rattle.hall.specs.Stages.{None}
@@ -46,7 +46,7 @@ module _ (N : Network) (s g : ℕ) (sound : None (move_ends N s g)) where
 
   module _ {row left : List ℕ} (filled : RowFilled N g row left) where
     pub walk_missing : get_or left s 0 ≡ no_walk_mark
-        → MoveReached N s g left (Refused (record { fault = Unreachable; place = 0 }))
+        → MoveReached N s g left (Err (record { fault = Unreachable; place = 0 }))
     walk_missing e =
         let marked = marked_none (filled.holds s facts.start_open.numbered) e in
         record {
@@ -54,7 +54,7 @@ module _ (N : Network) (s g : ℕ) (sound : None (move_ends N s g)) where
           downhill = λ x. absurd (not_both refl x);
         }
 
-    pub walk_there : length row ≡ node_limit → get_or left s 0 ≢ no_walk_mark → MoveReached N s g left Sound
+    pub walk_there : length row ≡ node_limit → get_or left s 0 ≢ no_walk_mark → MoveReached N s g left (Ok tt)
     walk_there size h = record {
       judged =
           let there = (start_distance down).walk in

@@ -11,7 +11,8 @@ use native.Mathlib.Omega.{arith}
 use lib.ListN.{get_or, take}
 use lib.Seq.{ext_get_or, get_or-take}
 use denote.Ref.{Bor}
-use Rattle.hall.specs.declared.Checked.{Checked}
+use Rattle.std.specs.Prelude.{Result, Ok, Err}
+use Rattle.hall.specs.declared.Refusal.{Refusal}
 use Rattle.hall.specs.Limits.{node_limit}
 use Rattle.hall.specs.Floor.{Network, floor}
 use Rattle.hall.specs.Path.{HousePath}
@@ -22,8 +23,6 @@ use Rattle.hall.proofs.Walks.{dist_unique}
 use Rattle.hall.proofs.House.{house_unique}
 use Rattle.hall.proofs.Numbers.{number_one_fault}
 use Rattle.hall.proofs.Stages.{none_excludes, first_unique, judged_unique}
-use Rattle.path.specs.declared.Housed.{Housed}
-use Rattle.path.specs.declared.Housed.TheVariants.{Nodes, Refused}
 use Rattle.path.specs.Paths.{Unfit, said_housed, House, HouseLeft, HouseAnswer, ListAnswer}
 use Rattle.path.specs.Paths.{Chosen, own_list, spare_list, neither, ChoiceAnswer}
 
@@ -53,31 +52,31 @@ module _ {N : Network} {s g : ℕ} {path : List ℕ} where
 
 -- whatever the question for the house path is
 module _ (q : Question) (N : Network) (s g : ℕ) (path : List ℕ) where
-  pub left_unique : (l l' : List ℕ) (r r' : Housed) →
+  pub left_unique : (l l' : List ℕ) (r r' : Result ℕ Refusal) →
       HouseLeft q N s g path l (said_housed r) → HouseLeft q N s g path l' (said_housed r')
       → (r ≡ r') × (l ≡ l')
-  left_unique l l' (Nodes c) (Nodes c') a b =
+  left_unique l l' (Ok c) (Ok c') a b =
       let e = house_count a.1 b.1 in
-      (ap Nodes e, house_left a.1 (subst (λ (n : ℕ). House N s g path l' n) (sym e) b.1))
-  left_unique l l' (Nodes c) (Refused t) a b = absurd (none_excludes b.0 a.0)
-  left_unique l l' (Refused r) (Nodes c) a b = absurd (none_excludes a.0 b.0)
-  left_unique l l' (Refused r) (Refused t) a b =
+      (ap Ok e, house_left a.1 (subst (λ (n : ℕ). House N s g path l' n) (sym e) b.1))
+  left_unique l l' (Ok c) (Err t) a b = absurd (none_excludes b.0 a.0)
+  left_unique l l' (Err r) (Ok c) a b = absurd (none_excludes a.0 b.0)
+  left_unique l l' (Err r) (Err t) a b =
       let e = first_unique a.0 b.0 in
       let same = number_one_fault r.fault t.fault e.0 in (
-        ap Refused (λ i. record { fault = same i; place = e.1 i }),
+        ap Err (λ i. record { fault = same i; place = e.1 i }),
         a.1 ∙ ap (λ (n : ℕ). left n node_limit path) e.0 ∙ sym b.1,
       )
 
 -- ---- the three questions
 
 module _ {N N' N'' : Network} {s g : ℕ} where
-  pub house_answer_unique : {path l l' : List ℕ} {r r' : Housed} →
+  pub house_answer_unique : {path l l' : List ℕ} {r r' : Result ℕ Refusal} →
       HouseAnswer N N' s g path l r → HouseAnswer N N'' s g path l' r' → (r ≡ r') × (l ≡ l') × (N' ≡ N'')
   house_answer_unique {path} {l} {l'} {r} {r'} a b =
       let e = left_unique (house_of_move _ N s g) N s g path l l' r r' a.given b.given in
       (e.0, e.1, a.network_kept ∙ sym b.network_kept)
 
-  pub list_answer_unique : {list list' list'' : List ℕ} {r r' : Checked} →
+  pub list_answer_unique : {list list' list'' : List ℕ} {r r' : Result Unit Refusal} →
       ListAnswer N N' s g list list' r → ListAnswer N N'' s g list list'' r'
       → (r ≡ r') × (N' ≡ N'') × (list' ≡ list'')
   list_answer_unique {list = list} {r = r} {r' = r'} a b = (

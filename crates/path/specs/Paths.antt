@@ -2,8 +2,8 @@
 -- N is the network, s and g are the move's start and goal. A network or a list with ' is as the question
 -- leaves it.
 --     Unfit           11: the proposed list is no shortest path of the move
---     said_housed      what a `Housed` says: how many nodes the house path has, or the refusal with its number
---                     and place
+--     said_housed     what the question for a house path says: how many nodes the path has, or the refusal with
+--                     its number and place
 --     House           an accepted house path of that many nodes: the list's first places are the house path,
 --                     which has one node more than the distance; past it there are zeros up to the least
 --                     length, and beyond nothing is touched
@@ -18,27 +18,24 @@
 --                     at its beginning
 --     ChoiceAnswer    the answer to the question for the choice
 --     NodeByNode      at the first place where two lists differ, the first list has the lower node
-use Rattle.std.specs.Prelude.{◌≡◌, ◌≢◌, List, [], ℕ, ◌+◌, ◌≤◌, ◌<◌, length, get_or, take}
+use Rattle.std.specs.Prelude.{◌≡◌, ◌≢◌, List, [], ℕ, ◌+◌, ◌≤◌, ◌<◌, length, get_or, take, Result}
 use Rattle.std.specs.Borrow.{Bor}
-use Rattle.hall.specs.declared.Checked.{Checked}
+use Rattle.hall.specs.declared.Refusal.{Refusal}
 use Rattle.hall.specs.Limits.{node_limit}
 use Rattle.hall.specs.Floor.{Network, floor}
 use Rattle.hall.specs.Path.{ShortestPath, HousePath}
 use Rattle.hall.specs.Stages.{Question, First, None}
-use Rattle.hall.specs.Said.{Said, accepted, refused, said_refusal, Judged}
+use Rattle.hall.specs.Said.{Said, accepted, refused, said, Judged}
 use Rattle.hall.specs.Questions.{move_question, house_of_move, list_of_move}
 use Rattle.hall.specs.Left.{left}
-use Rattle.path.specs.declared.Housed.{Housed}
-use Rattle.path.specs.declared.Housed.TheVariants.{Nodes, Refused}
 
 abbrev pub Unfit : Network → (s g : ℕ) (list : List ℕ) → Type 0
 Unfit N s g list = ¬ ShortestPath (floor N) s g list
 
 -- ---- the house path
 
-abbrev pub said_housed : Housed → Said ℕ
-said_housed (Nodes count) = accepted count
-said_housed (Refused r) = said_refusal r
+abbrev pub said_housed : Result ℕ Refusal → Said ℕ
+said_housed = said (λ count. count)
 
 pub record House (N : Network) (s g : ℕ) (path path' : List ℕ) (count : ℕ) : Type 0 where
   pub d : ℕ
@@ -52,13 +49,13 @@ abbrev pub HouseLeft : (q : Question) (N : Network) (s g : ℕ) (path path' : Li
 HouseLeft q N s g path path' (accepted count) = None q × House N s g path path' count
 HouseLeft q N s g path path' (refused n p) = First q n p × (path' ≡ left n node_limit path)
 
-pub record HouseAnswer (N N' : Network) (s g : ℕ) (path path' : List ℕ) (r : Housed) : Type 0 where
+pub record HouseAnswer (N N' : Network) (s g : ℕ) (path path' : List ℕ) (r : Result ℕ Refusal) : Type 0 where
   pub given : HouseLeft (house_of_move (length path < node_limit) N s g) N s g path path' (said_housed r)
   pub network_kept : N' ≡ N
 
 -- ---- the question about one list
 
-pub record ListAnswer (N N' : Network) (s g : ℕ) (list list' : List ℕ) (r : Checked) : Type 0 where
+pub record ListAnswer (N N' : Network) (s g : ℕ) (list list' : List ℕ) (r : Result Unit Refusal) : Type 0 where
   pub judged : Judged (list_of_move N s g (Unfit N s g list)) r
   pub network_kept : N' ≡ N
   pub list_kept : list' ≡ list

@@ -13,9 +13,8 @@
 --     OnWay          the number v is a node, and the row has a distance there: it is open and has a walk to
 --                    the goal
 --     AllOnWay       every number of the list is such a node
-use Rattle.std.specs.Prelude.{◌≡◌, ◌⊎◌, ◌≢◌, List, ℕ, ◌+◌, ◌-◌, ◌≤◌, ◌<◌, length, get_or, take}
-use Rattle.hall.specs.declared.Checked.{Checked}
-use Rattle.hall.specs.declared.Checked.TheVariants.{Sound}
+use Rattle.std.specs.Prelude.{◌≡◌, ◌⊎◌, ◌≢◌, List, ℕ, ◌+◌, ◌-◌, ◌≤◌, ◌<◌, length, get_or, take, Result, Ok}
+use Rattle.hall.specs.declared.Refusal.{Refusal}
 use Rattle.hall.specs.Limits.{node_limit, no_walk_mark}
 use Rattle.hall.specs.Floor.{DistanceIs, Lane, Network, floor}
 use Rattle.hall.specs.Path.{HousePath}
@@ -29,9 +28,9 @@ pub record Downhill (N : Network) (s g : ℕ) (row : List ℕ) : Type 0 where
   pub numbered : s < N.nodes
   pub reached : get_or row s 0 ≢ no_walk_mark
 
-pub record MoveReached (N : Network) (s g : ℕ) (row : List ℕ) (r : Checked) : Type 0 where
+pub record MoveReached (N : Network) (s g : ℕ) (row : List ℕ) (r : Result Unit Refusal) : Type 0 where
   pub judged : Judged (move_question N s g) r
-  pub downhill : r ≡ Sound → Downhill N s g row
+  pub downhill : r ≡ Ok tt → Downhill N s g row
 
 pub record Next (nodes : ℕ) (lanes row : List ℕ) (u wanted v : ℕ) : Type 0 where
   pub numbered : v < nodes

@@ -11,48 +11,27 @@
 
 ghost use Rattle.std.specs.Prelude.{◌≡◌, List, ℕ, ◌≤◌, length};
 ghost use Rattle.hall.specs.Limits.{node_limit};
-ghost use Rattle.hall.specs.Floor.{Lane, network_of};
+ghost use Rattle.hall.specs.Floor.{Lane, network_of, network_in};
 ghost use Rattle.hall.specs.Rule.{Answers};
 ghost use Rattle.path.specs.Paths.{HouseAnswer, ListAnswer, ChoiceAnswer};
 ghost use Rattle.path.specs.Steps.{Downhill, MoveReached, Nearer, LowestNext, Laid, Walks, AllOnWay};
 
-use hall::{Checked, Fault, Job, Refusal};
-
-// What the question for the house path answers: how many nodes the path has, or why there is none.
-#[derive(Drop)]
-pub enum Housed {
-    Nodes(usize),
-    Refused(Refusal),
-}
+use hall::{Ends, Fault, Job, Network, Refusal};
 
 // The checks of a move: 2, 3, 12, 4, 5, 13 and 8. Where none holds, the row has each node's distance to the
 // goal.
-fn check_reached(
-    nodes: usize,
-    lanes: &[u16],
-    closed: &[u16],
-    start: u16,
-    goal: u16,
-    row: &mut [u16],
-) -> Checked
+fn check_reached(network: &Network, ends: Ends, row: &mut [u16]) -> Result<(), Refusal>
     requires { length row.old ≡ node_limit }
-    ensures { MoveReached
-        (network_of nodes lanes.now closed.now)
-        start goal
-        row.new
-        result }
+    ensures { MoveReached (network_in network.now) ends.start ends.goal row.new result }
 {
-    let checked = network::checks::check_move(nodes, lanes, closed, start, goal);
-    if let Checked::Refused(_) = checked {
-        return checked;
-    }
-    walk::distances(nodes, lanes, closed, goal, row);
-    let here = start as usize;
+    network::checks::check_move(network, ends)?;
+    walk::distances(network, ends.goal, row);
+    let here = ends.start as usize;
     let distance = row[here];
     if distance == Job::NO_WALK {
-        return Checked::Refused(Refusal::new(Fault::Unreachable, 0));
+        return Err(Refusal::new(Fault::Unreachable, 0));
     }
-    Checked::Sound
+    Ok(())
 }
 
 // One end of a lane, seen from node u: if the lane leads from u to a node b at the wanted distance, the lower
@@ -99,23 +78,23 @@ fn next_node(nodes: usize, lanes: &[u16], row: &[u16], u: u16, wanted: u16) -> u
 
 // The house path, from the start on until the goal; how many nodes it has. Places past its end are not
 // touched. Which nodes are closed is told by the row alone.
-fn lay(nodes: usize, lanes: &[u16], row: &[u16], start: u16, goal: u16, path: &mut [u16]) -> usize
+fn lay(nodes: usize, lanes: &[u16], row: &[u16], ends: Ends, path: &mut [u16]) -> usize
     requires { (closed : List ℕ)
-        × Downhill (network_of nodes lanes.now closed) start goal row.now
+        × Downhill (network_of nodes lanes.now closed) ends.start ends.goal row.now
         × (node_limit ≤ length path.old) }
     ensures { (closed : List ℕ)
-        → Downhill (network_of nodes lanes.now closed) start goal row.now
+        → Downhill (network_of nodes lanes.now closed) ends.start ends.goal row.now
         → Laid (network_of nodes lanes.now closed)
-        start goal
+        ends.start ends.goal
         path.old path.new
         result }
 {
-    let here = start as usize;
+    let here = ends.start as usize;
     let mut left = row[here];
-    let mut u = start;
+    let mut u = ends.start;
     let mut at: usize = 0;
-    path[0] = start;
-    while u != goal {
+    path[0] = u;
+    while u != ends.goal {
         left -= 1;
         at += 1;
         u = next_node(nodes, lanes, row, u, left);
@@ -124,34 +103,24 @@ fn lay(nodes: usize, lanes: &[u16], row: &[u16], start: u16, goal: u16, path: &m
     at + 1
 }
 
-// The house path of a move, into a list of 1,024 places at least; past its end they become zero.
-pub fn house(
-    nodes: usize,
-    lanes: &[u16],
-    closed: &[u16],
-    start: u16,
-    goal: u16,
-    path: &mut [u16],
-) -> Housed
+// The house path of a move, into a list of 1,024 places at least; past its end they become zero. The answer
+// is how many nodes it has.
+pub fn house(network: &Network, ends: Ends, path: &mut [u16]) -> Result<usize, Refusal>
     ensures { HouseAnswer
-        (network_of nodes lanes.now closed.now)
-        (network_of nodes lanes.now closed.now)
-        start goal
+        (network_in network.now)
+        (network_in network.now)
+        ends.start ends.goal
         path.old path.new
         result }
 {
-    let room = path.len();
-    if room < Job::NODES {
-        return Housed::Refused(Refusal::new(Fault::ShortTable, 0));
+    if path.len() < Job::NODES {
+        return Err(Refusal::new(Fault::ShortTable, 0));
     }
-    hall::zero::zero_first(path, Job::NODES);
+    hall::zero::fill_first(path, Job::NODES, 0);
     let mut row: [u16; Job::NODES] = [0; Job::NODES];
-    let reached = check_reached(nodes, lanes, closed, start, goal, &mut row);
-    if let Checked::Refused(refusal) = reached {
-        return Housed::Refused(refusal);
-    }
-    let count = lay(nodes, lanes, &row, start, goal, path);
-    Housed::Nodes(count)
+    check_reached(network, ends, &mut row)?;
+    let count = lay(network.nodes, network.lanes, &row, ends, path);
+    Ok(count)
 }
 
 // Whether a lane joins a and b.
@@ -180,18 +149,18 @@ fn joined(lanes: &[u16], a: u16, b: u16) -> bool
 
 // Whether the list leads from start to goal: its first number is the start, its last the goal, and lanes lead
 // from each to the next; whether its nodes are open is not asked.
-fn walks(lanes: &[u16], start: u16, goal: u16, list: &[u16]) -> bool
-    ensures { Answers result (Walks lanes.now start goal list.now) }
+fn walks(lanes: &[u16], ends: Ends, list: &[u16]) -> bool
+    ensures { Answers result (Walks lanes.now ends.start ends.goal list.now) }
 {
     let count = list.len();
     if count == 0 {
         return false;
     }
     let last = count - 1;
-    if list[0] != start {
+    if list[0] != ends.start {
         return false;
     }
-    if list[last] != goal {
+    if list[last] != ends.goal {
         return false;
     }
     let mut k: usize = 0;
@@ -231,66 +200,48 @@ fn all_on_way(nodes: usize, row: &[u16], list: &[u16]) -> bool
 
 // Whether a proposed list is one of a move's shortest paths. It is refused with 11 exactly if it is none,
 // whoever made it; a list that stands on a closed node is none.
-pub fn judge(
-    nodes: usize,
-    lanes: &[u16],
-    closed: &[u16],
-    start: u16,
-    goal: u16,
-    list: &[u16],
-) -> Checked
+pub fn judge(network: &Network, ends: Ends, list: &[u16]) -> Result<(), Refusal>
     ensures { ListAnswer
-        (network_of nodes lanes.now closed.now)
-        (network_of nodes lanes.now closed.now)
-        start goal
+        (network_in network.now)
+        (network_in network.now)
+        ends.start ends.goal
         list.now list.now
         result }
 {
     let mut row: [u16; Job::NODES] = [0; Job::NODES];
-    let reached = check_reached(nodes, lanes, closed, start, goal, &mut row);
-    if let Checked::Refused(_) = reached {
-        return reached;
-    }
-    let here = start as usize;
+    check_reached(network, ends, &mut row)?;
+    let here = ends.start as usize;
     let distance = row[here] as usize;
     let whole = distance + 1;
     let count = list.len();
     let unfit = Refusal::new(Fault::NotShortest, 0);
     if count == whole {
-        if all_on_way(nodes, &row, list) {
-            if walks(lanes, start, goal, list) {
-                return Checked::Sound;
+        if all_on_way(network.nodes, &row, list) {
+            if walks(network.lanes, ends, list) {
+                return Ok(());
             }
         }
     }
-    Checked::Refused(unfit)
+    Err(unfit)
 }
 
 // Takes the own list where it is a shortest path of the move, the spare where only that is one, and where
 // neither is, an empty part. The answer is the lent list itself (rules 6.5 and 6.6).
-pub fn choose<'a>(
-    nodes: usize,
-    lanes: &[u16],
-    closed: &[u16],
-    start: u16,
-    goal: u16,
-    own: &'a [u16],
-    spare: &'a [u16],
-) -> &'a [u16]
+pub fn choose<'a>(network: &Network, ends: Ends, own: &'a [u16], spare: &'a [u16]) -> &'a [u16]
     ensures { ChoiceAnswer
-        (network_of nodes lanes.now closed.now)
-        (network_of nodes lanes.now closed.now)
-        start goal
+        (network_in network.now)
+        (network_in network.now)
+        ends.start ends.goal
         own.entry own.exit
         spare.entry spare.exit
         result }
 {
-    let first = judge(nodes, lanes, closed, start, goal, own);
-    if let Checked::Sound = first {
+    let first = judge(network, ends, own);
+    if first.is_ok() {
         return own;
     }
-    let second = judge(nodes, lanes, closed, start, goal, spare);
-    if let Checked::Sound = second {
+    let second = judge(network, ends, spare);
+    if second.is_ok() {
         return spare;
     }
     &own[..0]

@@ -10,8 +10,7 @@ use mathlib.Core.List.{[], ◌∷◌}
 use Prim.Native.Nat.{ℕ}
 use native.Mathlib.Omega.{arith}
 use Rattle.hall.specs.declared.Refusal.{Refusal}
-use Rattle.hall.specs.declared.Checked.{Checked}
-use Rattle.hall.specs.declared.Checked.TheVariants.{Sound, Refused}
+use Rattle.std.specs.Prelude.{Result, Ok, Err}
 use Rattle.hall.specs.Limits.{carrier_limit, table_length}
 use Rattle.hall.specs.Numbers.{number_of}
 use Rattle.hall.specs.Job.{Numbers}
@@ -38,19 +37,19 @@ module _ (j : Numbers) (l : Lent) where
   short_received short = record { first = asked_here short; lists_left = refl }
 
   pub checked_received : ¬ ShortOf l → {m : Lent} → m ≡ cleared_of l →
-      (c : Checked) → Judged (checks_question j) c → Receiving j l m (said_checked c)
-  checked_received roomy e Sound none = record { no_fault = asked_clear roomy none; lists_left = e }
-  checked_received roomy e (Refused r) first = record {
+      (c : Result Unit Refusal) → Judged (checks_question j) c → Receiving j l m (said_checked c)
+  checked_received roomy e (Ok u) none = record { no_fault = asked_clear roomy none; lists_left = e }
+  checked_received roomy e (Err r) first = record {
     first = asked_later roomy first;
     lists_left =
         e ∙ sym (left_cleared (number_of r.fault) l (first_among NotNine {q = checks_question j} (omega arith) first));
   }
 
-module _ {j : Numbers} {before after : Lent} {c : Checked} where
-  pub is_received : c ≡ Sound → Receiving j before after (said_checked c) → Received j before after
+module _ {j : Numbers} {before after : Lent} {c : Result Unit Refusal} where
+  pub is_received : c ≡ Ok tt → Receiving j before after (said_checked c) → Received j before after
   is_received e a = rw e at a
 
-  pub received_refuses : {r : Refusal} → c ≡ Refused r → Receiving j before after (said_checked c) →
+  pub received_refuses : {r : Refusal} → c ≡ Err r → Receiving j before after (said_checked c) →
       NumbersRefused j before after (number_of r.fault) r.place
   received_refuses {r} e a =
       let refused : ReceivedRefused j before after (number_of r.fault) r.place = rw e at a in

@@ -8,110 +8,74 @@
 // (see crate ticks).
 #![tactic(auto)]
 
-ghost use Rattle.hall.specs.Floor.{network_of};
-ghost use Rattle.hall.specs.Job.{job_of};
+ghost use Rattle.hall.specs.Job.{job_in};
 ghost use Rattle.hall.specs.Said.{said_checked};
 ghost use Rattle.hall.specs.Rule.{Answers};
 ghost use Rattle.planner.specs.Planning.{said_planned, lent, Short, Planning};
 ghost use Rattle.planner.specs.Receiving.{Receiving};
 
-use hall::zero::{zero_first, zero_ticks};
-use hall::{Checked, Fault, Job, Refusal};
+use hall::zero::fill_first;
+use hall::{Fault, Job, JobNumbers, Refusal};
 use network::checks::check_job;
-use tables::{Tabled, measure};
-use ticks::{Timed, start_ticks};
-
-// What planning answers.
-#[derive(Clone, Copy)]
-pub enum Planned {
-    Cost(u32),
-    Refused(Refusal),
-}
+use tables::{Unmeasured, measure};
+use ticks::start_ticks;
 
 // 9, by the lengths of the lent lists.
 fn short(table: usize, distances: usize, ticks: usize) -> bool
     ensures { Answers result (Short table distances ticks) }
 {
-    if table < Job::TABLE {
-        return true;
-    }
-    if distances < Job::CARRIERS {
-        return true;
-    }
-    if ticks < Job::CARRIERS {
-        return true;
-    }
-    false
+    table < Job::TABLE || distances < Job::CARRIERS || ticks < Job::CARRIERS
 }
 
 // What comes before the distance table: 9 by the lengths of the lent lists, which leaves them as they came;
 // else their least lengths become zero, and the listed checks of the job are made.
 pub fn receive(
-    nodes: usize,
-    lanes: &[u16],
-    closed: &[u16],
-    moves: &[u16],
-    order: &[u16],
-    dwell: usize,
+    job: &JobNumbers,
     table: &mut [u16],
     distances: &mut [u16],
     ticks: &mut [u32],
-) -> Checked
+) -> Result<(), Refusal>
     ensures { Receiving
-        (job_of (network_of nodes lanes.now closed.now)
-        moves.now order.now dwell)
+        (job_in job.now)
         (lent table.old distances.old ticks.old)
         (lent table.new distances.new ticks.new)
         (said_checked result) }
 {
     if short(table.len(), distances.len(), ticks.len()) {
-        return Checked::Refused(Refusal::new(Fault::ShortTable, 0));
+        return Err(Refusal::new(Fault::ShortTable, 0));
     }
-    zero_first(table, Job::TABLE);
-    zero_first(distances, Job::CARRIERS);
-    zero_ticks(ticks);
-    check_job(nodes, lanes, closed, moves, order, dwell)
+    fill_first(table, Job::TABLE, 0);
+    fill_first(distances, Job::CARRIERS, 0);
+    fill_first(ticks, Job::CARRIERS, 0);
+    check_job(job)
 }
 
 // The plan of a job: its table, its carriers' distances and start ticks, and its cost; or the first refusal.
 // A move is two numbers: an odd last number of `moves` is no move and is ignored.
 pub fn plan_moves(
-    nodes: usize,
-    lanes: &[u16],
-    closed: &[u16],
-    moves: &[u16],
-    order: &[u16],
-    dwell: usize,
+    job: &JobNumbers,
     table: &mut [u16],
     distances: &mut [u16],
     ticks: &mut [u32],
-) -> Planned
+) -> Result<u32, Refusal>
     ensures { Planning
-        (job_of (network_of nodes lanes.now closed.now)
-        moves.now order.now dwell)
+        (job_in job.now)
         (lent table.old distances.old ticks.old)
         (lent table.new distances.new ticks.new)
         (said_planned result) }
 {
-    let received = receive(
-        nodes, lanes, closed, moves, order, dwell, table, distances, ticks,
-    );
-    if let Checked::Refused(refusal) = received {
-        return Planned::Refused(refusal);
-    }
-    match measure(nodes, lanes, closed, moves, table, distances) {
-        Tabled::All => {
-            let timed = start_ticks(table, order, dwell, ticks);
-            match timed {
-                Timed::Cost(cost) => Planned::Cost(cost),
-                // What is received and measured is served: no call comes here.
-                Timed::Unserved => Planned::Cost(0),
-            }
-        }
-        Tabled::Lost(carrier) => {
-            Planned::Refused(Refusal::new(Fault::Unreachable, carrier.0 as usize))
+    receive(job, table, distances, ticks)?;
+    match measure(&job.network, job.moves, table, distances) {
+        Ok(_) => {}
+        Err(Unmeasured::Lost(carrier)) => {
+            return Err(Refusal::new(Fault::Unreachable, carrier.0 as usize));
         }
         // What is received is served: no call comes here.
-        Tabled::Unserved => Planned::Cost(0),
+        Err(Unmeasured::Unserved) => return Ok(0),
+    }
+    match start_ticks(table, job.order, job.dwell, ticks) {
+        Some(cost) => Ok(cost),
+        // What is received and measured is served: no call comes here.
+        None => Ok(0),
     }
 }
