@@ -1,21 +1,20 @@
 -- For callers that lay out the list of held carriers: the numbers at a place are the tick and the pair there,
--- and the first permitted tick depends on nothing else. So a caller who shows what its seven numbers are,
--- carrier by carrier, has the smallest tick for its own carriers. Assumes nothing.
+-- and the first permitted tick depends on nothing else. So a caller who shows what its numbers are, carrier by
+-- carrier, has the smallest tick for its own carriers. Assumes nothing.
 use mathlib.Core.Path.{◌≡◌}
 use mathlib.Core.List.{List}
-use Prim.Native.Nat.{ℕ, ◌+◌, ◌*◌, ◌<◌}
-use lib.ListN.{get_or}
+use Prim.Native.Nat.{ℕ, ◌<◌}
 use Rattle.hall.specs.Rule.{Pair}
 use Rattle.hall.specs.Ticks.{SmallestFrom, PermittedBy}
-use Rattle.rule.specs.Held.{held_pair, held_tick}
+use Rattle.rule.specs.declared.Held.{Held}
+use Rattle.rule.specs.Held.{held_at, held_pair, held_tick}
 
-pub held_tick_is : (held : List ℕ) (p t : ℕ) → get_or held (7 * p) 0 ≡ t → held_tick held p ≡ t
+pub held_tick_is : (held : List Held) (p t : ℕ) → (held_at held p).tick ≡ t → held_tick held p ≡ t
 unfolding held_tick
 held_tick_is held p t e = e
 
-pub held_pair_is : (held : List ℕ) (p : ℕ) (q : Pair)
-    → get_or held (7 * p + 1) 0 ≡ q.ss → get_or held (7 * p + 2) 0 ≡ q.gg → get_or held (7 * p + 3) 0 ≡ q.ii
-    → get_or held (7 * p + 4) 0 ≡ q.jj → get_or held (7 * p + 5) 0 ≡ q.ij → get_or held (7 * p + 6) 0 ≡ q.ji
+pub held_pair_is : (held : List Held) (p : ℕ) (q : Pair) → let six = (held_at held p).pair in
+    six.ss ≡ q.ss → six.gg ≡ q.gg → six.ii ≡ q.ii → six.jj ≡ q.jj → six.ij ≡ q.ij → six.ji ≡ q.ji
     → held_pair held p ≡ q
 unfolding held_pair
 held_pair_is held p q e₁ e₂ e₃ e₄ e₅ e₆ = rw (e₁, e₂, e₃, e₄, e₅, e₆)

@@ -1,11 +1,11 @@
--- The laws behind the promises, from one stretch to the whole search. For callers: Carry, Held, Bound and
+-- The laws behind the promises, from one stretch to the whole search. For callers: Carry, Holding, Bound and
 -- Unique.
 pub mod Stretch
 pub mod StretchEnd
 pub mod Reach
 pub mod Work
 pub mod Carry
-pub mod Held
+pub mod Holding
 pub mod Bound
 pub mod Near
 pub mod Unique

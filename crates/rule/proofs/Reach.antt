@@ -5,13 +5,14 @@
 -- carrier's last tick is permitted by it. Assumes nothing.
 use mathlib.Core.Path.{◌≡◌, subst}
 use mathlib.Core.List.{List}
-use Prim.Native.Nat.{ℕ, ◌+◌, ◌/◌, ◌≤◌, ◌<◌}
+use Prim.Native.Nat.{ℕ, ◌+◌, ◌≤◌, ◌<◌}
 use native.Mathlib.Nat.{le_refl, not-suc-le-zero}
 use native.Mathlib.Decide.{dec_lt}
 use native.Mathlib.Omega.{arith}
 use lib.ListN.{length}
 use Rattle.hall.specs.Rule.{Pair}
 use Rattle.hall.specs.Ticks.{SmallestFrom, PermittedBy}
+use Rattle.rule.specs.declared.Held.{Held}
 use Rattle.rule.specs.Held.{held_pair, held_tick}
 use Rattle.rule.specs.Reach.{latest_tick, TickReached, PermittedByHeld, PassedOne, RoundMade}
 use Rattle.rule.proofs.Stretch.{Free, free_bound, free_onward}
@@ -52,9 +53,9 @@ permitted_by_more w n pair tick x all one p h = cases (dec_lt p n)
     cases (no l) = let e : p ≡ n = omega arith in rw e one
 
 -- a round of the held carriers that began at a tick, has asked those before a place, and is now at another
-pub record RoundTo (w : ℕ) (held : List ℕ) (from place tick : ℕ) : Type 0 where
+pub record RoundTo (w : ℕ) (held : List Held) (from place tick : ℕ) : Type 0 where
   -- no tick that all permit was passed
-  pub reached : TickReached from (PermittedByHeld w held (length held / 7)) tick
+  pub reached : TickReached from (PermittedByHeld w held (length held)) tick
   -- if nothing moved, each that was asked permits the tick
   pub still : tick ≡ from → PermittedByHeld w held place from
   -- if something moved, a carrier was passed for good
@@ -62,16 +63,16 @@ pub record RoundTo (w : ℕ) (held : List ℕ) (from place tick : ℕ) : Type 0 
   -- the sums of the next test fit
   pub within : tick ≤ latest_tick
 
-module _ (w : ℕ) (held : List ℕ) (from : ℕ) where
+module _ (w : ℕ) (held : List Held) (from : ℕ) where
   pub round_begins : from ≤ latest_tick → RoundTo w held from 0 from
   round_begins h = record {
-    reached = reached_here from (PermittedByHeld w held (length held / 7));
+    reached = reached_here from (PermittedByHeld w held (length held));
     still = λ e. permitted_by_none w (held_pair held) (held_tick held) from;
     passed = λ l. absurd (let x : ⊥ = omega arith in x);
     within = h;
   }
 
-  module _ (place tick x : ℕ) (inside : place < length held / 7) (s : RoundTo w held from place tick)
+  module _ (place tick x : ℕ) (inside : place < length held) (s : RoundTo w held from place tick)
       (one : SmallestFrom tick (Free w (held_pair held place) (held_tick held place)) x) where
     still_on : x ≡ from → PermittedByHeld w held (place + 1) from
     still_on e =
@@ -100,14 +101,14 @@ module _ (w : ℕ) (held : List ℕ) (from : ℕ) where
     round_on goal = record {
       reached =
           reached_further s.reached
-          (reached_by_one w (length held / 7) (held_pair held) (held_tick held) place inside one);
+          (reached_by_one w (length held) (held_pair held) (held_tick held) place inside one);
       still = still_on;
       passed = λ h. passed_on h (dec_lt tick x);
       within = free_bound w (held_pair held place) (held_tick held place) latest_tick one s.within goal;
     }
 
   pub round_ends : {place tick : ℕ}
-      → place ≡ length held / 7 → RoundTo w held from place tick → RoundMade w held from tick
+      → place ≡ length held → RoundTo w held from place tick → RoundMade w held from tick
   round_ends e s = record {
     reached = s.reached;
     still = λ f. rw e at (s.still f);
@@ -116,8 +117,8 @@ module _ (w : ℕ) (held : List ℕ) (from : ℕ) where
   }
 
 -- a reached tick that a whole round does not move is the smallest that all permit
-pub round_smallest : (w : ℕ) (held : List ℕ) (from tick next : ℕ)
-    → TickReached from (PermittedByHeld w held (length held / 7)) tick → RoundMade w held tick next → next ≤ tick
-    → SmallestFrom from (PermittedByHeld w held (length held / 7)) tick
+pub round_smallest : (w : ℕ) (held : List Held) (from tick next : ℕ)
+    → TickReached from (PermittedByHeld w held (length held)) tick → RoundMade w held tick next → next ≤ tick
+    → SmallestFrom from (PermittedByHeld w held (length held)) tick
 round_smallest w held from tick next r s h =
     reached_smallest r (s.still (omega (arith, s.reached.not_before)))

@@ -5,13 +5,14 @@
 -- does not. Each round makes k pair tests, k (k + 1) at most in all. Assumes nothing.
 use mathlib.Core.Path.{◌≡◌}
 use mathlib.Core.List.{List}
-use Prim.Native.Nat.{ℕ, zero, suc, ◌+◌, ◌/◌, ◌≤◌, ◌<◌, zero-le}
+use Prim.Native.Nat.{ℕ, zero, suc, ◌+◌, ◌≤◌, ◌<◌, zero-le}
 use native.Mathlib.Nat.{le_refl, not-suc-le-zero}
 use native.Mathlib.Decide.{dec_lt}
 use native.Mathlib.Omega.{arith}
 use lib.ListN.{length}
 use Rattle.hall.specs.Ticks.{total}
 use Rattle.hall.proofs.Ticks.{total_limit}
+use Rattle.rule.specs.declared.Held.{Held}
 use Rattle.rule.specs.Held.{held_pair, held_tick}
 use Rattle.rule.specs.Reach.{PassedOne}
 use Rattle.rule.proofs.StretchEnd.{stretch_end, end_after, end_by}
@@ -60,25 +61,25 @@ unfolding one
 one_limit (yes a) = le_refl 1
 one_limit (no a) = zero-le
 
-module _ (w : ℕ) (held : List ℕ) where
+module _ (w : ℕ) (held : List Held) where
   abbrev end : ℕ → ℕ
   end p = stretch_end w (held_pair held p) (held_tick held p)
 
   -- how many held carriers have a stretch that ends after a tick
   pub ahead : ℕ → ℕ
-  ahead t = total (length held / 7) (λ p. one (dec_lt t (end p)))
+  ahead t = total (length held) (λ p. one (dec_lt t (end p)))
 
-  pub ahead_limit : (t : ℕ) → ahead t ≤ length held / 7
+  pub ahead_limit : (t : ℕ) → ahead t ≤ length held
   unfolding ahead
   ahead_limit t =
       let after : ℕ → ℕ = λ p. one (dec_lt t (end p)) in
-      let h = total_limit (length held / 7) after 1 (λ p l. one_limit (dec_lt t (end p))) in omega arith
+      let h = total_limit (length held) after 1 (λ p l. one_limit (dec_lt t (end p))) in omega arith
 
   -- a round that moves the tick leaves one more stretch behind
   pub ahead_falls : (t x : ℕ) → t ≤ x → PassedOne w held t x → ahead x < ahead t
   unfolding ahead
   ahead_falls t x h o =
-      total_less (length held / 7) (λ p. one (dec_lt x (end p))) (λ p. one (dec_lt t (end p)))
+      total_less (length held) (λ p. one (dec_lt x (end p))) (λ p. one (dec_lt t (end p)))
       (λ p. one_falls (dec_lt x (end p)) (dec_lt t (end p)) (λ l. omega arith)) o.place o.inside
       (one_less (dec_lt x (end o.place)) (dec_lt t (end o.place)) (λ l. omega (arith, by))
       (omega (arith, after, o.not_before)))

@@ -1,8 +1,8 @@
 // The pair rule (rules 4.1 to 4.9) on plain numbers, and the first tick that it leaves free (rules 5.2 and
-// 5.3) against carriers that are held in one list of numbers. Nothing here refuses: every number of the types
-// is served, and a carrier for which the list has no room is not written, which the answer says. The sums are
-// made in u64, where none of them can overflow: no tick comes up that is later than `latest_tick`
-// (specs/Reach.antt). The dwell is a number among the others: one function serves every dwell, 0 too.
+// 5.3) against a list of held carriers. Nothing here refuses: every number of the types is served, and a
+// carrier for which the list has no place is not written, which the answer says. The sums are made in u64,
+// where none of them can overflow: no tick comes up that is later than `latest_tick` (specs/Reach.antt). The
+// dwell is a number among the others: one function serves every dwell, 0 too.
 //
 // Work of `first_tick` against k held carriers: a carrier moves the tick at most once, since it permits every
 // tick after the move. So at most k rounds change the tick, one more changes nothing, and each makes k pair
@@ -10,42 +10,50 @@
 // so few is proved: it is the measure of the loop (proofs/Work.antt).
 #![tactic(auto)]
 
-ghost use Rattle.std.specs.Prelude.{◌+◌, ◌*◌, ◌/◌, ◌≤◌, ◌<◌, pos, ◌-ℤ◌, length};
-ghost use Rattle.hall.specs.Rule.{Forbidden, Permitted, pair6, Answers};
+ghost use Rattle.std.specs.Prelude.{◌≤◌, pos, ◌-ℤ◌, length};
+ghost use Rattle.hall.specs.Rule.{Forbidden, Permitted, Answers};
 ghost use Rattle.hall.specs.Ticks.{SmallestFrom, PermittedBy};
-ghost use Rattle.rule.specs.Held.{held_pair, held_tick, Holding};
+ghost use Rattle.rule.specs.Held.{pair_in, held_pair, held_tick, Holding};
 ghost use Rattle.rule.specs.Reach.{latest_tick, RoundMade};
 
 use hall::{Job, Place};
 
-// So many numbers are room for every carrier that a job can have: seven for each.
-pub const HELD: usize = 7 * Job::CARRIERS;
+// The six distances of a pair (rule 4.2): i is earlier in the order, j later.
+#[derive(Clone, Copy)]
+pub struct Pair {
+    // Between the two starts, and between the two goals.
+    pub ss: u32,
+    pub gg: u32,
+    // The carriers' own.
+    pub ii: u32,
+    pub jj: u32,
+    // From i's start to j's goal, and from j's start to i's goal.
+    pub ij: u32,
+    pub ji: u32,
+}
+
+// A held carrier: its start tick, and its pair with the new one.
+#[derive(Clone, Copy)]
+pub struct Held {
+    pub tick: u32,
+    pub pair: Pair,
+}
 
 // Whether the rule forbids that i starts at ti and j at tj, with additions only. All sums are made before the
 // tests; the mark for "no walk" between the starts is tested first, and then none of them decides (rule 4.5).
 // The exception is looked at without dwell only (rule 4.8).
-fn forbidden(
-    ss: u32,
-    gg: u32,
-    ii: u32,
-    jj: u32,
-    ij: u32,
-    ji: u32,
-    dwell: u32,
-    ti: u32,
-    tj: u64,
-) -> bool
+fn forbidden(pair: Pair, dwell: u32, ti: u32, tj: u64) -> bool
     requires { tj ≤ latest_tick }
-    ensures { Answers result (Forbidden dwell (pair6 ss gg ii jj ij ji) (pos tj -ℤ pos ti)) }
+    ensures { Answers result (Forbidden dwell (pair_in pair) (pos tj -ℤ pos ti)) }
 {
-    let starts_goals = ss as u64 + gg as u64;
-    let owns = ii as u64 + jj as u64;
-    let low = ti as u64 + ij as u64;
-    let low_end = tj + jj as u64 + dwell as u64;
-    let high = tj + ji as u64;
-    let high_end = ti as u64 + ii as u64 + dwell as u64;
-    let parity = (ti as u64 + tj + ss as u64) % 2;
-    if ss == Job::NO_WALK as u32 {
+    let starts_goals = pair.ss as u64 + pair.gg as u64;
+    let owns = pair.ii as u64 + pair.jj as u64;
+    let low = ti as u64 + pair.ij as u64;
+    let low_end = tj + pair.jj as u64 + dwell as u64;
+    let high = tj + pair.ji as u64;
+    let high_end = ti as u64 + pair.ii as u64 + dwell as u64;
+    let parity = (ti as u64 + tj + pair.ss as u64) % 2;
+    if pair.ss == Job::NO_WALK as u32 {
         return false;
     }
     if starts_goals > owns {
@@ -75,53 +83,33 @@ fn forbidden(
     true
 }
 
-// Whether the rule forbids that i starts at tick ti and j at tick tj, where the first six numbers are the
-// pair's distances (rule 4.2) and carriers have that dwell.
-pub fn forbids(
-    ss: u16,
-    gg: u16,
-    ii: u16,
-    jj: u16,
-    ij: u16,
-    ji: u16,
-    dwell: u32,
-    ti: u32,
-    tj: u32,
-) -> bool
-    ensures { Answers result (Forbidden dwell (pair6 ss gg ii jj ij ji) (pos tj -ℤ pos ti)) }
+// Whether the rule forbids that i starts at tick ti and j at tick tj, where carriers have that dwell.
+pub fn forbids(pair: Pair, dwell: u32, ti: u32, tj: u32) -> bool
+    ensures { Answers result (Forbidden dwell (pair_in pair) (pos tj -ℤ pos ti)) }
 {
-    forbidden(
-        ss as u32, gg as u32, ii as u32, jj as u32, ij as u32, ji as u32, dwell, ti, tj as u64,
-    )
+    forbidden(pair, dwell, ti, tj as u64)
 }
 
-// The smallest tick from a given one up that a single held carrier permits, in one jump past its stretch. The
-// stretch's upper end is free already where the exception holds there (rule 4.8).
-fn free_from(
-    ss: u32,
-    gg: u32,
-    ii: u32,
-    jj: u32,
-    ij: u32,
-    ji: u32,
-    dwell: u32,
-    ti: u32,
-    from: u64,
-) -> u64
+// The smallest tick from a given one up that a single held carrier permits, in one jump past its stretch.
+// The stretch's upper end is free already where the exception holds there (rule 4.8).
+fn free_from(held: Held, dwell: u32, from: u64) -> u64
     requires { from ≤ latest_tick }
-    ensures { SmallestFrom
+    ensures smallest { SmallestFrom
         from
-        (λ x. Permitted dwell (pair6 ss gg ii jj ij ji) (pos x -ℤ pos ti))
+        (λ x. Permitted dwell (pair_in held.pair) (pos x -ℤ pos held.tick))
         result }
+    ensures within { result ≤ latest_tick }
 {
-    let starts_goals = ss as u64 + gg as u64;
-    let owns = ii as u64 + jj as u64;
-    let high_end = ti as u64 + ii as u64 + dwell as u64;
-    if !forbidden(ss, gg, ii, jj, ij, ji, dwell, ti, from) {
+    let pair = held.pair;
+    let ti = held.tick;
+    let starts_goals = pair.ss as u64 + pair.gg as u64;
+    let owns = pair.ii as u64 + pair.jj as u64;
+    let high_end = ti as u64 + pair.ii as u64 + dwell as u64;
+    if !forbidden(pair, dwell, ti, from) {
         return from;
     }
-    let last = high_end - ji as u64;
-    let end_parity = (ti as u64 + last + ss as u64) % 2;
+    let last = high_end - pair.ji as u64;
+    let end_parity = (ti as u64 + last + pair.ss as u64) % 2;
     let after = last + 1;
     if dwell > 0 {
         return after;
@@ -135,54 +123,23 @@ fn free_from(
     last
 }
 
-// The same for the carrier that is held at a place.
-fn free_at(held: &[u32], dwell: u32, place: usize, from: u64) -> u64
-    requires { (7 * place + 6 < length held.now) × (from ≤ latest_tick) }
-    ensures { SmallestFrom
-        from
-        (λ x. Permitted
-        dwell
-        (held_pair held.now place)
-        (pos x -ℤ pos (held_tick held.now place)))
-        result }
-{
-    let at = 7 * place;
-    let ti = held[at];
-    let ss = held[at + 1];
-    let gg = held[at + 2];
-    let ii = held[at + 3];
-    let jj = held[at + 4];
-    let ij = held[at + 5];
-    let ji = held[at + 6];
-    free_from(ss, gg, ii, jj, ij, ji, dwell, ti, from)
-}
-
 // One round of the held carriers: each moves the tick on to the first that it permits.
-fn round(held: &[u32], dwell: u32, from: u64) -> u64
+fn round(held: &[Held], dwell: u32, from: u64) -> u64
     requires { from ≤ latest_tick }
     ensures { RoundMade dwell held.now from result }
 {
-    let count = held.len() / 7;
     let mut tick = from;
-    let mut place = 0;
-    while place < count {
-        tick = free_at(held, dwell, place, tick);
-        place += 1;
+    for carrier in held {
+        tick = free_from(*carrier, dwell, tick);
     }
     tick
 }
 
-// The smallest tick from a given one up that every held carrier permits, where all have that dwell. Seven
-// numbers stand for each: its start tick, then the six distances of the pair that it makes with the new
-// carrier, as in `forbids`. What is left over after the last seven is not read.
-pub fn first_tick(held: &[u32], dwell: u32, from: u32) -> u64
+// The smallest tick from a given one up that every held carrier permits, where all have that dwell.
+pub fn first_tick(held: &[Held], dwell: u32, from: u32) -> u64
     ensures { SmallestFrom
         from
-        (PermittedBy
-        dwell
-        (length held.now / 7)
-        (held_pair held.now)
-        (held_tick held.now))
+        (PermittedBy dwell (length held.now) (held_pair held.now) (held_tick held.now))
         result }
 {
     let mut tick = from as u64;
@@ -194,39 +151,15 @@ pub fn first_tick(held: &[u32], dwell: u32, from: u32) -> u64
     tick
 }
 
-// Writes a carrier at its place in the held list: its start tick, then the six distances of its pair with the
-// new one. Whether it was written: where the list has no seven numbers at that place, nothing changes.
-pub fn hold(
-    held: &mut [u32],
-    place: Place,
-    tick: u32,
-    ss: u16,
-    gg: u16,
-    ii: u16,
-    jj: u16,
-    ij: u16,
-    ji: u16,
-) -> bool
-    ensures { Holding
-        held.old
-        held.new
-        place.0
-        tick
-        (pair6 ss gg ii jj ij ji)
-        result }
+// Writes a carrier at its place in the held list: its start tick, then its pair with the new one. Whether it
+// was written: where the list has no such place, nothing changes.
+pub fn hold(held: &mut [Held], place: Place, tick: u32, pair: Pair) -> bool
+    ensures { Holding held.old held.new place.0 tick (pair_in pair) result }
 {
     let p = place.0;
-    let count = held.len() / 7;
-    if p >= count {
+    if p >= held.len() {
         return false;
     }
-    let at = 7 * p;
-    held[at] = tick;
-    held[at + 1] = ss as u32;
-    held[at + 2] = gg as u32;
-    held[at + 3] = ii as u32;
-    held[at + 4] = jj as u32;
-    held[at + 5] = ij as u32;
-    held[at + 6] = ji as u32;
+    held[p] = Held { tick, pair };
     true
 }
