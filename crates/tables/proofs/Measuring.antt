@@ -21,6 +21,8 @@ use mathlib.Core.List.{List, [], ◌∷◌}
 use Prim.Native.Nat.{ℕ, ◌≤◌, ◌<◌}
 use native.Mathlib.Omega.{arith}
 use lib.ListN.{length, get_or}
+use Rattle.std.specs.Prelude.{Option, Some, Result, Ok, Err}
+use Rattle.std.specs.Prelude as std
 use Rattle.hall.specs.declared.Carrier.{Carrier}
 use Rattle.hall.specs.Limits.{carrier_limit, table_length, no_walk_mark, distance_limit}
 use Rattle.hall.specs.Floor.{Network, floor, DistanceIs}
@@ -36,10 +38,8 @@ use Rattle.hall.proofs.Compose.{first_here, none_more, none_at_all}
 use Rattle.hall.proofs.Places.{each_first, each_none, none_each}
 use Rattle.hall.proofs.Sound.{MovesSound, moves_sound}
 use Rattle.hall.proofs.Left.{zeroed_same, zeroed_length, row_changed}
-use Rattle.tables.specs.declared.Reach.{Reach}
-use Rattle.tables.specs.declared.Reach.TheVariants as reach
-use Rattle.tables.specs.declared.Tabled.{Tabled}
-use Rattle.tables.specs.declared.Tabled.TheVariants.{All, Lost, Unserved}
+use Rattle.tables.specs.declared.Unmeasured.{Unmeasured as Why}
+use Rattle.tables.specs.declared.Unmeasured.TheVariants.{Lost, Unserved}
 use Rattle.tables.specs.Filling.{TableServed, TableFilled, TableUntouched, Filling}
 use Rattle.tables.specs.Filling.{FirstLost, NoneLost, looked, unserved, said_reach, Reaching}
 use Rattle.tables.specs.Measuring.{MeasureServed, Measured, LostLeft, Unmeasured, said_tabled, Measuring}
@@ -102,20 +102,20 @@ module _ {N : Network} {moves table table' : List ℕ} (f : TableFilled N moves 
   -- ---- the outcomes of measuring, by what the search for the lowest says
 
   module _ (distances : List ℕ) (enough : carrier_limit ≤ length distances) where
-    pub is_lost : {r : Reach} {c : Carrier} {t d : List ℕ} → r ≡ reach.Lost c →
+    pub is_lost : {r : Option Carrier} {c : Carrier} {t d : List ℕ} → r ≡ Some c →
         Reaching table' (move_count moves) (said_reach r) →
         t ≡ zeroed table_length table' → d ≡ zeroed carrier_limit distances →
         LostLeft N moves table t distances d 8 c.0
     is_lost {r} {c} told said e z = record {
       served = record { table_served = f.served; enough_distances = enough };
       first =
-          let lost : Reaching table' (move_count moves) (said_reach (reach.Lost c)) = rw told at said in
+          let lost : Reaching table' (move_count moves) (said_reach (Some c)) = rw told at said in
           lost_first lost.1;
       table_left = e ∙ zeroed_same table_length table table' f.table_left.size f.table_left.beyond;
       distances_left = z;
     }
 
-    pub is_measured : {r : Reach} {z d : List ℕ} → r ≡ reach.All → Reaching table' (move_count moves) (said_reach r) →
+    pub is_measured : {r : Option Carrier} {z d : List ℕ} → r ≡ std.None → Reaching table' (move_count moves) (said_reach r) →
         z ≡ zeroed carrier_limit distances → OwnCopied table' (move_count moves) z d →
         Measured N moves table table' distances d
     is_measured told said e copied = record {
@@ -130,20 +130,20 @@ module _ {N : Network} {moves table table' : List ℕ} (f : TableFilled N moves 
 
 -- ---- what the answer of measuring tells
 
-module _ {N : Network} {moves table table' distances distances' : List ℕ} {r : Tabled} where
-  pub says_all : r ≡ All → Measuring N moves table table' distances distances' (said_tabled r) →
+module _ {N : Network} {moves table table' distances distances' : List ℕ} {r : Result Unit Why} where
+  pub says_all : r ≡ Ok tt → Measuring N moves table table' distances distances' (said_tabled r) →
       Measured N moves table table' distances distances'
   says_all e a = rw e at a
 
-  pub says_lost : {c : Carrier} → r ≡ Lost c → Measuring N moves table table' distances distances' (said_tabled r) →
+  pub says_lost : {c : Carrier} → r ≡ Err (Lost c) → Measuring N moves table table' distances distances' (said_tabled r) →
       LostLeft N moves table table' distances distances' 8 c.0
   says_lost e a = rw e at a
 
-  says_unserved : r ≡ Unserved → Measuring N moves table table' distances distances' (said_tabled r) →
+  says_unserved : r ≡ Err Unserved → Measuring N moves table table' distances distances' (said_tabled r) →
       Unmeasured N moves table table' distances distances'
   says_unserved e a = rw e at a
 
 pub served_measured : {N : Network} {moves table distances : List ℕ} → MeasureServed N moves table distances →
-    (table' distances' : List ℕ) {r : Tabled} → r ≡ Unserved →
+    (table' distances' : List ℕ) {r : Result Unit Why} → r ≡ Err Unserved →
     Measuring N moves table table' distances distances' (said_tabled r) → ⊥
 served_measured served table' distances' e a = (says_unserved e a).unserved served

@@ -14,6 +14,8 @@ use native.Mathlib.Decide.{dec_lt}
 use native.Mathlib.Omega.{arith}
 use lib.ListN.{get_or}
 use lib.Seq.{ext_get_or}
+use Rattle.std.specs.Prelude.{Option, Some, None, Result, Ok, Err}
+use Rattle.hall.specs.declared.Carrier.{Carrier}
 use Rattle.hall.specs.Limits.{carrier_limit, block_length, table_length}
 use Rattle.hall.specs.Floor.{Network}
 use Rattle.hall.specs.Job.{move_count}
@@ -23,10 +25,8 @@ use Rattle.hall.proofs.Walks.{distance_unique}
 use Rattle.hall.proofs.Lowest.{dec_and}
 use Rattle.hall.proofs.Stages.{first_unique, none_excludes}
 use Rattle.hall.proofs.Left.{row_unique}
-use Rattle.tables.specs.declared.Reach.{Reach}
-use Rattle.tables.specs.declared.Reach.TheVariants.{All, Lost}
-use Rattle.tables.specs.declared.Tabled.{Tabled}
-use Rattle.tables.specs.declared.Tabled.TheVariants as tabled
+use Rattle.tables.specs.declared.Unmeasured.{Unmeasured as Why}
+use Rattle.tables.specs.declared.Unmeasured.TheVariants.{Lost, Unserved}
 use Rattle.tables.specs.Filling.{Used, TableFilled, Filling, FirstLost, NoneLost, looked, unserved}
 use Rattle.tables.specs.Filling.{said_reach, Reaching}
 use Rattle.tables.specs.Measuring.{Measured, said_tabled, Measuring}
@@ -85,14 +85,14 @@ not_both {c = c} a (looked t k none) = none c a.is_carrier a.marked
 not_both a (unserved (inl short)) = omega (arith, a.whole_table)
 not_both a (unserved (inr many)) = omega (arith, a.few_carriers)
 
-pub reaching_unique : (table : List ℕ) (carriers : ℕ) (r r' : Reach) →
+pub reaching_unique : (table : List ℕ) (carriers : ℕ) (r r' : Option Carrier) →
     Reaching table carriers (said_reach r) → Reaching table carriers (said_reach r') → r ≡ r'
-reaching_unique table carriers All All a b = refl
-reaching_unique table carriers All (Lost c) a b = absurd (not_both b.1 a)
-reaching_unique table carriers (Lost c) All a b = absurd (not_both a.1 b)
-reaching_unique table carriers (Lost c) (Lost c') a b =
+reaching_unique table carriers None None a b = refl
+reaching_unique table carriers None (Some c) a b = absurd (not_both b.1 a)
+reaching_unique table carriers (Some c) None a b = absurd (not_both a.1 b)
+reaching_unique table carriers (Some c) (Some c') a b =
     let same : c.0 ≡ c'.0 = omega (arith, not_below a.1 b.1, not_below b.1 a.1) in
-    ap (λ (n : ℕ). Lost (record { 0 = n })) same
+    ap (λ (n : ℕ). Some (record { 0 = n })) same
 
 module _ (N : Network) (moves table distances t u d e : List ℕ) where
   same_own : Measured N moves table t distances d → Measured N moves table u distances e → t ≡ u → d ≡ e
@@ -100,22 +100,22 @@ module _ (N : Network) (moves table distances t u d e : List ℕ) where
       row_unique a.distances_left b.distances_left
       (λ i h. a.own_distances i h ∙ ap (λ (l : List ℕ). own (tables_in l) i) same ∙ sym (b.own_distances i h))
 
-  pub measuring_unique : (r r' : Tabled) →
+  pub measuring_unique : (r r' : Result Unit Why) →
       Measuring N moves table t distances d (said_tabled r) →
       Measuring N moves table u distances e (said_tabled r') →
       (r ≡ r') × (t ≡ u) × (d ≡ e)
-  measuring_unique tabled.All tabled.All a b =
+  measuring_unique (Ok v) (Ok v') a b =
       let same = filled_unique N moves table t u a.table_filled b.table_filled in (refl, same, same_own a b same)
-  measuring_unique tabled.All (tabled.Lost c) a b = absurd (none_excludes b.first a.all_walk)
-  measuring_unique tabled.All tabled.Unserved a b = absurd (b.unserved a.served)
-  measuring_unique (tabled.Lost c) tabled.All a b = absurd (none_excludes a.first b.all_walk)
-  measuring_unique (tabled.Lost c) (tabled.Lost c') a b = (
-    ap (λ (n : ℕ). tabled.Lost (record { 0 = n })) (first_unique a.first b.first).1,
+  measuring_unique (Ok v) (Err (Lost c)) a b = absurd (none_excludes b.first a.all_walk)
+  measuring_unique (Ok v) (Err Unserved) a b = absurd (b.unserved a.served)
+  measuring_unique (Err (Lost c)) (Ok v) a b = absurd (none_excludes a.first b.all_walk)
+  measuring_unique (Err (Lost c)) (Err (Lost c')) a b = (
+    ap (λ (n : ℕ). Err (Lost (record { 0 = n }))) (first_unique a.first b.first).1,
     a.table_left ∙ sym b.table_left,
     a.distances_left ∙ sym b.distances_left,
   )
-  measuring_unique (tabled.Lost c) tabled.Unserved a b = absurd (b.unserved a.served)
-  measuring_unique tabled.Unserved tabled.All a b = absurd (a.unserved b.served)
-  measuring_unique tabled.Unserved (tabled.Lost c) a b = absurd (a.unserved b.served)
-  measuring_unique tabled.Unserved tabled.Unserved a b =
+  measuring_unique (Err (Lost c)) (Err Unserved) a b = absurd (b.unserved a.served)
+  measuring_unique (Err Unserved) (Ok v) a b = absurd (a.unserved b.served)
+  measuring_unique (Err Unserved) (Err (Lost c)) a b = absurd (a.unserved b.served)
+  measuring_unique (Err Unserved) (Err Unserved) a b =
       (refl, a.table_kept ∙ sym b.table_kept, a.distances_kept ∙ sym b.distances_kept)

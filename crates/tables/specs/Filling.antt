@@ -14,9 +14,10 @@
 --                       mark
 --     NoneLost          no carrier is without one; or the table is short or there are more than 64 carriers,
 --                       which is not served, and nothing was looked at
---     said_reach         what a `Reach` says: nothing is lost, or 8 at the carrier number
+--     said_reach         what a lost carrier says: 8 at its number; and nothing is refused where there is none
 --     Reaching          the promise of the question for the lowest carrier without a walk
-use Rattle.std.specs.Prelude.{◌≡◌, ◌⊎◌, ◌≢◌, Bool, true, false, List, ℕ, ◌*◌, ◌/◌, ◌%◌, ◌≤◌, ◌<◌, length, get_or}
+use Rattle.std.specs.Prelude.{◌≡◌, ◌⊎◌, ◌≢◌, Bool, true, false, List, ℕ, ◌*◌, ◌/◌, ◌%◌, ◌≤◌, ◌<◌, length, get_or, Option, Some, None}
+use Rattle.hall.specs.declared.Carrier.{Carrier}
 use Rattle.hall.specs.declared.Fault.TheVariants.{Unreachable}
 use Rattle.hall.specs.Numbers.{number_of}
 use Rattle.hall.specs.Said.{Said, accepted, refused}
@@ -25,8 +26,6 @@ use Rattle.hall.specs.Floor.{Network, floor}
 use Rattle.hall.specs.Job.{move_count, start_in, goal_in}
 use Rattle.hall.specs.Ticks.{own}
 use Rattle.hall.specs.Plan.{TablesOf, tables_in}
-use Rattle.tables.specs.declared.Reach.{Reach}
-use Rattle.tables.specs.declared.Reach.TheVariants.{All, Lost}
 
 abbrev pub EachBelow : List ℕ → ℕ → Type 0
 EachBelow moves n = (x : ℕ) → x < 2 * move_count moves → get_or moves x 0 < n
@@ -75,9 +74,9 @@ pub data NoneLost (table : List ℕ) (carriers : ℕ) : Type 0 where
       → NoneLost table carriers
   unserved : (length table < table_length) ⊎ (carrier_limit < carriers) → NoneLost table carriers
 
-abbrev pub said_reach : Reach → Said Unit
-said_reach All = accepted tt
-said_reach (Lost c) = refused (number_of Unreachable) c.0
+abbrev pub said_reach : Option Carrier → Said Unit
+said_reach None = accepted tt
+said_reach (Some c) = refused (number_of Unreachable) c.0
 
 abbrev pub Reaching : (table : List ℕ) (carriers : ℕ) → Said Unit → Type 0
 Reaching table carriers (accepted u) = NoneLost table carriers

@@ -1,5 +1,5 @@
 -- The distance table of a job with 8 and the carriers' own distances (rules 2.6, 8.8, 9.2 and 9.8).
---     said_tabled      what a `Tabled` says: every carrier has a walk, or 8 at the lowest carrier number that
+--     said_tabled      what the answer of measuring says: every carrier has a walk, or 8 at the lowest carrier number that
 --                     has none; and nothing where the input is none of those served, for which the rules have
 --                     no number
 --     MeasureServed   what is measured: what is served with a table, and room for as many distances as a job
@@ -12,7 +12,7 @@
 --     Measuring       the promise of measuring: one of the three, by what is said
 --     OwnCopied       what a step promises: the own distances of k carriers stand in the list, and nothing
 --                     else changed. No public promise cites it
-use Rattle.std.specs.Prelude.{◌≡◌, List, [], ◌∷◌, ℕ, ◌≤◌, ◌<◌, length, get_or}
+use Rattle.std.specs.Prelude.{◌≡◌, List, [], ◌∷◌, ℕ, ◌≤◌, ◌<◌, length, get_or, Result, Ok, Err}
 use Rattle.std.proofs.Math.Option.{Option, some, none}
 use Rattle.hall.specs.declared.Fault.TheVariants.{Unreachable}
 use Rattle.hall.specs.Numbers.{number_of}
@@ -25,14 +25,14 @@ use Rattle.hall.specs.Questions.{each_walk}
 use Rattle.hall.specs.Left.{zeroed, RowLeft}
 use Rattle.hall.specs.Ticks.{own}
 use Rattle.hall.specs.Plan.{tables_in}
-use Rattle.tables.specs.declared.Tabled.{Tabled}
-use Rattle.tables.specs.declared.Tabled.TheVariants.{All, Lost, Unserved}
+use Rattle.tables.specs.declared.Unmeasured.{Unmeasured as Why}
+use Rattle.tables.specs.declared.Unmeasured.TheVariants.{Lost, Unserved}
 use Rattle.tables.specs.Filling.{TableServed, TableFilled}
 
-abbrev pub said_tabled : Tabled → Option (Said Unit)
-said_tabled All = some (accepted tt)
-said_tabled (Lost c) = some (refused (number_of Unreachable) c.0)
-said_tabled Unserved = none
+abbrev pub said_tabled : Result Unit Why → Option (Said Unit)
+said_tabled (Ok u) = some (accepted tt)
+said_tabled (Err (Lost c)) = some (refused (number_of Unreachable) c.0)
+said_tabled (Err Unserved) = none
 
 pub record MeasureServed (N : Network) (moves table distances : List ℕ) : Type 0 where
   pub table_served : TableServed N moves (length table)

@@ -11,7 +11,7 @@
 
 ghost use Rattle.std.specs.Prelude.{ℕ, ◌+◌, ◌≤◌, ◌<◌, ◌≡◌, length, get_or};
 ghost use Rattle.hall.specs.Limits.{carrier_limit, table_length};
-ghost use Rattle.hall.specs.Floor.{network_of};
+ghost use Rattle.hall.specs.Floor.{network_in};
 ghost use Rattle.hall.specs.Job.{move_count};
 ghost use Rattle.hall.specs.Rule.{Answers};
 ghost use Rattle.tables.specs.Filling.{EachBelow, TableServed, Filling, TableFilled};
@@ -19,8 +19,8 @@ ghost use Rattle.tables.specs.Blocks.{RowCopied, RowsCopied, CameBefore, NodeFil
 ghost use Rattle.tables.specs.Filling.{said_reach, Reaching};
 ghost use Rattle.tables.specs.Measuring.{OwnCopied, said_tabled, Measuring};
 
-use hall::zero::zero_first;
-use hall::{Carrier, Job};
+use hall::zero::fill_first;
+use hall::{Carrier, Job, Network};
 use walk::distances;
 
 // Whether every start and every goal is a node.
@@ -87,22 +87,15 @@ fn copy_rows(row: &[u16], moves: &[u16], node: u16, block: usize, table: &mut [u
 }
 
 // The rows of all carriers whose start or goal is the node, by one walk.
-fn fill_node(
-    nodes: usize,
-    lanes: &[u16],
-    closed: &[u16],
-    moves: &[u16],
-    node: u16,
-    table: &mut [u16],
-)
-    requires { TableServed (network_of nodes lanes.now closed.now) moves.now (length table.old)
-        × (node < nodes) }
-    ensures { NodeFilled (network_of nodes lanes.now closed.now)
+fn fill_node(network: &Network, moves: &[u16], node: u16, table: &mut [u16])
+    requires { TableServed (network_in network.now) moves.now (length table.old)
+        × (node < network.now.nodes) }
+    ensures { NodeFilled (network_in network.now)
         moves.now node
         table.old table.new }
 {
     let mut row = [0u16; Job::NODES];
-    distances(nodes, lanes, closed, node, &mut row);
+    distances(network, node, &mut row);
     copy_rows(&row, moves, node, 0, table);
     copy_rows(&row, moves, node, 1, table);
     copy_rows(&row, moves, node, 2, table);
@@ -125,10 +118,10 @@ fn came_before(moves: &[u16], end: usize, node: u16) -> bool
 
 // The rows of all carriers, over a table whose first places are zero. A node that came before, as a start or
 // as a goal, has its rows already and gets no second walk.
-fn fill_all(nodes: usize, lanes: &[u16], closed: &[u16], moves: &[u16], table: &mut [u16])
-    requires { TableServed (network_of nodes lanes.now closed.now) moves.now (length table.old)
+fn fill_all(network: &Network, moves: &[u16], table: &mut [u16])
+    requires { TableServed (network_in network.now) moves.now (length table.old)
         × ((x : ℕ) → x < table_length → get_or table.old x 0 ≡ 0) }
-    ensures { TableFilled (network_of nodes lanes.now closed.now)
+    ensures { TableFilled (network_in network.now)
         moves.now
         table.old table.new }
 {
@@ -139,21 +132,21 @@ fn fill_all(nodes: usize, lanes: &[u16], closed: &[u16], moves: &[u16], table: &
         if came_before(moves, x, node) {
             x += 1;
         } else {
-            fill_node(nodes, lanes, closed, moves, node, table);
+            fill_node(network, moves, node, table);
             x += 1;
         }
     }
 }
 
 // The distances between the starts and goals of the moves; whether they were worked out.
-pub fn fill(nodes: usize, lanes: &[u16], closed: &[u16], moves: &[u16], table: &mut [u16]) -> bool
-    ensures { Filling (network_of nodes lanes.now closed.now)
+pub fn fill(network: &Network, moves: &[u16], table: &mut [u16]) -> bool
+    ensures { Filling (network_in network.now)
         moves.now
         table.old table.new result }
 {
     let count = moves.len() / 2;
     let room = table.len();
-    if nodes > Job::NODES {
+    if network.nodes > Job::NODES {
         return false;
     }
     if count > Job::CARRIERS {
@@ -162,43 +155,35 @@ pub fn fill(nodes: usize, lanes: &[u16], closed: &[u16], moves: &[u16], table: &
     if room < Job::TABLE {
         return false;
     }
-    if !all_nodes(nodes, moves) {
+    if !all_nodes(network.nodes, moves) {
         return false;
     }
-    zero_first(table, Job::TABLE);
-    fill_all(nodes, lanes, closed, moves, table);
+    fill_first(table, Job::TABLE, 0);
+    fill_all(network, moves, table);
     true
 }
 
-// Whether every carrier has a walk to its goal, by the own distances of a table; or the lowest carrier number
-// that has none.
-#[derive(Drop)]
-pub enum Reach {
-    All,
-    Lost(Carrier),
-}
-
-// Looks for the lowest of the carrier numbers below `carriers` without a walk. A table of fewer than 12,288
-// numbers and more than 64 carriers are not served: nothing is looked at, and no carrier is answered.
-pub fn first_unreached(table: &[u16], carriers: usize) -> Reach
+// Looks for the lowest of the carrier numbers below `carriers` without a walk, by the own distances of a
+// table. A table of fewer than 12,288 numbers and more than 64 carriers are not served: nothing is looked at,
+// and no carrier is answered.
+pub fn first_unreached(table: &[u16], carriers: usize) -> Option<Carrier>
     ensures { Reaching table.now carriers (said_reach result) }
 {
     if table.len() < Job::TABLE {
-        return Reach::All;
+        return None;
     }
     if carriers > Job::CARRIERS {
-        return Reach::All;
+        return None;
     }
     let mut i: usize = 0;
     while i < carriers {
         let at = Job::BLOCK + (Job::CARRIERS * i + i);
         if table[at] == Job::NO_WALK {
-            let number = i as u16;
-            return Reach::Lost(Carrier(number));
+            return Some(Carrier(i as u16));
         }
         i += 1;
     }
-    Reach::All
+    None
 }
 
 // Copies each carrier's own distance out of the table.
@@ -220,11 +205,10 @@ fn copy_own(table: &[u16], carriers: usize, distances: &mut [u16])
     }
 }
 
-// What measuring answers: every carrier has a walk to its goal; or the lowest carrier number that has none;
-// or what is asked is not served.
+// Why moves are not measured: a carrier has no walk to its goal, the lowest such number; or what is asked is
+// not served.
 #[derive(Drop)]
-pub enum Tabled {
-    All,
+pub enum Unmeasured {
     Lost(Carrier),
     Unserved,
 }
@@ -233,38 +217,30 @@ pub enum Tabled {
 // the least lengths of both lists zero. What `fill` does not serve is not served, nor are fewer than 64
 // distances: both lists are then as they came.
 pub fn measure(
-    nodes: usize,
-    lanes: &[u16],
-    closed: &[u16],
+    network: &Network,
     moves: &[u16],
     table: &mut [u16],
     distances: &mut [u16],
-) -> Tabled
-    ensures { Measuring (network_of nodes lanes.now closed.now)
+) -> Result<(), Unmeasured>
+    ensures { Measuring (network_in network.now)
         moves.now
         table.old table.new
         distances.old distances.new
         (said_tabled result) }
 {
     let carriers = moves.len() / 2;
-    let room = distances.len();
-    if room < Job::CARRIERS {
-        return Tabled::Unserved;
+    if distances.len() < Job::CARRIERS {
+        return Err(Unmeasured::Unserved);
     }
-    let filled = fill(nodes, lanes, closed, moves, table);
-    if !filled {
-        return Tabled::Unserved;
+    if !fill(network, moves, table) {
+        return Err(Unmeasured::Unserved);
     }
-    zero_first(distances, Job::CARRIERS);
-    match first_unreached(table, carriers) {
-        Reach::All => {
-            copy_own(table, carriers, distances);
-            Tabled::All
-        }
-        Reach::Lost(carrier) => {
-            let whole = Job::TABLE;
-            zero_first(table, whole);
-            Tabled::Lost(carrier)
-        }
+    fill_first(distances, Job::CARRIERS, 0);
+    if let Some(carrier) = first_unreached(table, carriers) {
+        let whole = Job::TABLE;
+        fill_first(table, whole, 0);
+        return Err(Unmeasured::Lost(carrier));
     }
+    copy_own(table, carriers, distances);
+    Ok(())
 }

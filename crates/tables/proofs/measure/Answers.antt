@@ -3,12 +3,12 @@
 use Rattle.tables.proofs.Measuring.{is_lost, is_measured}
 use Rattle.tables.proofs.measure.Goals as goal
 
-pub returns-in-All : goal.returns-in-All
-returns-in-All c =
-    is_measured c.if-not-filled.ensures c.args.distances.now c.if-room-lt-CARRIERS.false c.in-All.is c.first_unreached.ensures
-    c.zero_first.ensures c.copy_own.ensures
+pub returns-in-Some : goal.returns-in-Some
+returns-in-Some c =
+    is_lost c.if-not-fill.ensures c.args.distances.now c.if-distances-lt-CARRIERS.false c.in-Some.is c.first_unreached.ensures
+    c.fill_first-in-Some.ensures c.fill_first.ensures
 
-pub returns-in-Lost : goal.returns-in-Lost
-returns-in-Lost c =
-    is_lost c.if-not-filled.ensures c.args.distances.now c.if-room-lt-CARRIERS.false c.in-Lost.is c.first_unreached.ensures
-    c.zero_first-in-Lost.ensures c.zero_first.ensures
+pub returns : goal.returns
+returns c =
+    is_measured c.if-not-fill.ensures c.args.distances.now c.if-distances-lt-CARRIERS.false c.in_default.is c.first_unreached.ensures
+    c.fill_first.ensures c.copy_own.ensures
