@@ -19,7 +19,7 @@ ghost use Rattle.rule.specs.Reach.{latest_tick, RoundMade};
 use hall::{Job, Place};
 
 // The six distances of a pair (rule 4.2): i is earlier in the order, j later.
-#[derive(Clone, Copy)]
+#[derive(Clone, Copy, Default)]
 pub struct Pair {
     // Between the two starts, and between the two goals.
     pub ss: u32,
@@ -33,7 +33,7 @@ pub struct Pair {
 }
 
 // A held carrier: its start tick, and its pair with the new one.
-#[derive(Clone, Copy)]
+#[derive(Clone, Copy, Default)]
 pub struct Held {
     pub tick: u32,
     pub pair: Pair,

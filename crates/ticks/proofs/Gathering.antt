@@ -5,7 +5,7 @@
 use mathlib.Core.Path.{◌≡◌, refl, ◌∙◌, ap, subst}
 use mathlib.Core.Bool.{Bool, true, false}
 use mathlib.Core.List.{List}
-use Prim.Native.Nat.{ℕ, ◌+◌, ◌*◌, ◌/◌, ◌≤◌, ◌<◌}
+use Prim.Native.Nat.{ℕ, ◌+◌, ◌≤◌, ◌<◌}
 use native.Mathlib.Nat.{not-suc-le-zero}
 use native.Mathlib.Decide.{dec_lt}
 use native.Mathlib.Omega.{arith}
@@ -14,15 +14,16 @@ use lib.Seq.{length-take-le, get_or-take}
 use Rattle.hall.specs.Limits.{carrier_limit}
 use Rattle.hall.specs.Ticks.{SmallestFrom, PermittedBy, pair_of}
 use Rattle.hall.specs.Plan.{tables_in}
-use Rattle.rule.specs.Held.{held_tick, held_pair, held_with}
+use Rattle.rule.specs.declared.Held.{Held}
+use Rattle.rule.specs.Held.{nobody, held_at, held_tick, held_pair, held_with}
 use Rattle.ticks.specs.Timing.{OrderServed}
 use Rattle.ticks.specs.Gathering.{HeldAt, GatherServed, Gathered, Gathering}
 use Rattle.rule.proofs.Carry.{smallest_same}
-use Rattle.rule.proofs.Held.{tick_same, pair_same, held_length, held_tick_lem, held_pair_lem}
-use Rattle.rule.proofs.Held.{earlier_tick, earlier_pair, later}
+use Rattle.rule.proofs.Holding.{tick_same, pair_same, held_length, held_tick_lem, held_pair_lem}
+use Rattle.rule.proofs.Holding.{earlier_tick, earlier_pair, later}
 use Rattle.ticks.proofs.Order.{entry_below}
 
-module _ (table order ticks held₀ : List ℕ) (new : ℕ) where
+module _ (table order ticks : List ℕ) (held₀ : List Held) (new : ℕ) where
   pub gathered_none : Gathered table order ticks held₀ held₀ new 0
   gathered_none = record {
     as_many = refl;
@@ -31,13 +32,13 @@ module _ (table order ticks held₀ : List ℕ) (new : ℕ) where
   }
 
   -- the carrier at place p is written at place p, with its tick and its pair
-  next : (held : List ℕ) (p : ℕ) → List ℕ
+  next : (held : List Held) (p : ℕ) → List Held
   next held p =
       held_with held p (get_or ticks (get_or order p 0) 0)
       (pair_of (tables_in table) (get_or order p 0) new)
 
-  next_each : (held : List ℕ) (p : ℕ) →
-      7 * p + 7 ≤ length held →
+  next_each : (held : List Held) (p : ℕ) →
+      p < length held →
       Gathered table order ticks held₀ held new p →
       (r : ℕ) → r < p + 1 → Dec (r < p) → HeldAt table order ticks (next held p) new r
   unfolding next
@@ -49,8 +50,8 @@ module _ (table order ticks held₀ : List ℕ) (new : ℕ) where
       let e : r ≡ p = omega arith in
       rw e (record { tick_is = held_tick_lem held p _ _ fits; pair_is = held_pair_lem held p _ _ fits })
 
-  pub gathered_more : (held held' : List ℕ) (p i : ℕ) →
-      7 * p + 7 ≤ length held →
+  pub gathered_more : (held held' : List Held) (p i : ℕ) →
+      p < length held →
       i ≡ get_or order p 0 →
       held' ≡ held_with held p (get_or ticks i 0) (pair_of (tables_in table) i new) →
       Gathered table order ticks held₀ held new p →
@@ -66,7 +67,7 @@ module _ (table order ticks held₀ : List ℕ) (new : ℕ) where
       })
 
 -- what is served is gathered
-pub served_gathered : (table order ticks : List ℕ) (q new : ℕ) (held held' : List ℕ) (r : Bool) →
+pub served_gathered : (table order ticks : List ℕ) (q new : ℕ) (held held' : List Held) (r : Bool) →
     GatherServed table order (length ticks) q new (length held) →
     Gathering table order ticks q new held held' r →
     Gathered table order ticks held held' new q
@@ -74,7 +75,7 @@ served_gathered table order ticks q new held held' true s g = g.gathered
 served_gathered table order ticks q new held held' false s g = absurd (g.unserved s)
 
 -- the list keeps its length, served or not
-pub gathering_length : (table order ticks : List ℕ) (q new : ℕ) (held held' : List ℕ) (r : Bool) →
+pub gathering_length : (table order ticks : List ℕ) (q new : ℕ) (held held' : List Held) (r : Bool) →
     Gathering table order ticks q new held held' r → length held' ≡ length held
 gathering_length table order ticks q new held held' true g = g.gathered.as_many
 gathering_length table order ticks q new held held' false g = ap length g.kept
@@ -85,7 +86,7 @@ pub order_gathers : {table order : List ℕ} {timed : ℕ} →
     (q room : ℕ) {new : ℕ} →
     q ≤ length order →
     new < carrier_limit →
-    7 * carrier_limit ≤ room →
+    carrier_limit ≤ room →
     GatherServed table order timed q new room
 order_gathers s q room h e fits = record {
   whole_table = s.whole_table;
@@ -98,17 +99,17 @@ order_gathers s q room h e fits = record {
 
 -- ---- what a filled list permits
 
--- `whole` is the list of which only the first 7 q numbers are lent
-module _ (w : ℕ) (table order ticks held₀ whole : List ℕ) (new q : ℕ)
-    (g : Gathered table order ticks held₀ whole new q) (fits : 7 * q ≤ length whole) where
-  abbrev pub lent : List ℕ
-  lent = take (7 * q) whole
+-- `whole` is the list of which only the first q places are lent
+module _ (w : ℕ) (table order ticks : List ℕ) (held₀ whole : List Held) (new q : ℕ)
+    (g : Gathered table order ticks held₀ whole new q) (fits : q ≤ length whole) where
+  abbrev pub lent : List Held
+  lent = take q whole
 
-  pub lent_count : length lent / 7 ≡ q
-  lent_count = omega (arith, length-take-le (7 * q) whole fits)
+  pub lent_count : length lent ≡ q
+  lent_count = length-take-le q whole fits
 
-  lent_at : (p : ℕ) → p < q → (k : ℕ) → k < 7 * p + 7 → get_or lent k 0 ≡ get_or whole k 0
-  lent_at p h k l = get_or-take (7 * q) whole k 0 (omega arith)
+  lent_at : (p : ℕ) → p < q → held_at lent p ≡ held_at whole p
+  lent_at p h = get_or-take q whole p nobody h
 
   pub lent_tick : (p : ℕ) → p < q → held_tick lent p ≡ get_or ticks (get_or order p 0) 0
   lent_tick p h = tick_same lent whole p (lent_at p h) ∙ (g.each p h).tick_is
@@ -117,7 +118,7 @@ module _ (w : ℕ) (table order ticks held₀ whole : List ℕ) (new q : ℕ)
   lent_pair p h = pair_same lent whole p (lent_at p h) ∙ (g.each p h).pair_is
 
   pub lent_smallest : {from x : ℕ} →
-      SmallestFrom from (PermittedBy w (length lent / 7) (held_pair lent) (held_tick lent)) x →
+      SmallestFrom from (PermittedBy w (length lent) (held_pair lent) (held_tick lent)) x →
       SmallestFrom from
       (PermittedBy w q (λ p. pair_of (tables_in table) (get_or order p 0) new) (λ p. get_or ticks (get_or order p 0) 0))
       x

@@ -12,8 +12,7 @@ use Rattle.hall.specs.Floor.{floor}
 use Rattle.hall.specs.Job.{Numbers, carriers, start, goal}
 use Rattle.hall.specs.Ticks.{own, cost_of}
 use Rattle.hall.specs.Plan.{tables_in, TablesOf, Plan}
-use Rattle.ticks.specs.declared.Timed.{Timed}
-use Rattle.ticks.specs.declared.Timed.TheVariants.{Cost, Unserved}
+use Rattle.std.specs.Prelude.{Option, Some, None}
 use Rattle.ticks.specs.Timing.{TicksServed, Given, TicksUntouched, said_timed, Timing}
 use Rattle.ticks.specs.Steps.{PlacedTo}
 use Rattle.ticks.proofs.Order.{entry_below}
@@ -51,12 +50,12 @@ given_plan j table ticks ticks' cost e g distances reached = record {
 
 -- ---- what an answer tells
 
-pub is_given : {table order ticks ticks' : List ℕ} {dwell : ℕ} {r : Timed} {cost : ℕ} → r ≡ Cost cost →
+pub is_given : {table order ticks ticks' : List ℕ} {dwell : ℕ} {r : Option ℕ} {cost : ℕ} → r ≡ Some cost →
     Timing table order dwell ticks ticks' (said_timed r) → Given table order dwell ticks ticks' cost
 is_given e a = rw e at a
 
-pub never_untimed : (table order : List ℕ) (dwell : ℕ) (ticks ticks' : List ℕ) {r : Timed} →
-    TicksServed table order dwell (length ticks) → r ≡ Unserved →
+pub never_untimed : (table order : List ℕ) (dwell : ℕ) (ticks ticks' : List ℕ) {r : Option ℕ} →
+    TicksServed table order dwell (length ticks) → r ≡ None →
     Timing table order dwell ticks ticks' (said_timed r) → ⊥
 never_untimed table order dwell ticks ticks' s e a =
     let u : TicksUntouched table order dwell ticks ticks' = rw e at a in u.unserved s

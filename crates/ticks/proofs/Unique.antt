@@ -1,15 +1,15 @@
 -- `start_ticks` has one outcome: two answers with their ticks that fit the promise are equal. Where the input
 -- is served, both have the start ticks by the order, which are unique for each carrier it lists, and it lists
 -- every number below its length; at other places both have what came. Equal ticks have equal costs. An input
--- is not both served and unserved. So it is for `gather`: a number of the held list is one of the seven at a
--- place before q, where the carrier is given, or stands after them, where it is as it came. The promise of
+-- is not both served and unserved. So it is for `gather`: a place of the held list is before q, where the
+-- carrier is given, or after them, where it is as it came. The promise of
 -- `cost` is an equation. Assumes nothing.
 --     timing_unique       two outcomes of `start_ticks` that fit its promise are equal
 --     gathering_unique    so are two of `gather`
 use mathlib.Core.Path.{◌≡◌, refl, sym, ap, subst, ◌∙◌}
 use mathlib.Core.Bool.{Bool, true, false}
 use mathlib.Core.List.{List}
-use Prim.Native.Nat.{ℕ, ◌+◌, ◌*◌, ◌/◌, ◌%◌, ◌<◌}
+use Prim.Native.Nat.{ℕ, ◌<◌}
 use native.Mathlib.Decide.{dec_lt}
 use native.Mathlib.Omega.{arith}
 use lib.ListN.{length, get_or}
@@ -17,11 +17,12 @@ use lib.Seq.{ext_get_or}
 use Rattle.hall.specs.Ticks.{goal_tick}
 use Rattle.hall.specs.Plan.{tables_in}
 use Rattle.hall.proofs.Ticks.{ticks_unique_all, total_same}
-use Rattle.ticks.specs.declared.Timed.{Timed}
-use Rattle.ticks.specs.declared.Timed.TheVariants.{Cost, Unserved}
+use Rattle.std.specs.Prelude.{Option, Some, None}
 use Rattle.ticks.specs.Timing.{Given, said_timed, Timing}
 use Rattle.ticks.specs.Gathering.{Gathered, Gathering}
-use Rattle.rule.proofs.Held.{numbers_same}
+use Rattle.rule.specs.declared.Held.{Held}
+use Rattle.rule.specs.Held.{nobody, held_at}
+use Rattle.rule.proofs.Holding.{numbers_same}
 use Rattle.ticks.proofs.Order.{entry_below, one_place}
 
 module _ (table order : List ℕ) (dwell : ℕ) (ticks : List ℕ) where
@@ -44,35 +45,29 @@ module _ (table order : List ℕ) (dwell : ℕ) (ticks : List ℕ) where
         (λ i h. omega (arith, same_tick i (yes h)))
         ∙ sym b.cost_is
 
-  pub timing_unique : (u v : List ℕ) (r r' : Timed) →
+  pub timing_unique : (u v : List ℕ) (r r' : Option ℕ) →
       Timing table order dwell ticks u (said_timed r) →
       Timing table order dwell ticks v (said_timed r') →
       (r ≡ r') × (u ≡ v)
-  timing_unique u v (Cost c) (Cost d) a b =
-      (ap Cost (given_cost_unique u v c d a b), given_ticks_unique u v c d a b)
-  timing_unique u v (Cost c) Unserved a b = absurd (b.unserved a.served)
-  timing_unique u v Unserved (Cost d) a b = absurd (a.unserved b.served)
-  timing_unique u v Unserved Unserved a b = (refl, a.kept ∙ sym b.kept)
+  timing_unique u v (Some c) (Some d) a b =
+      (ap Some (given_cost_unique u v c d a b), given_ticks_unique u v c d a b)
+  timing_unique u v (Some c) None a b = absurd (b.unserved a.served)
+  timing_unique u v None (Some d) a b = absurd (a.unserved b.served)
+  timing_unique u v None None a b = (refl, a.kept ∙ sym b.kept)
 
-module _ (table order ticks : List ℕ) (q new : ℕ) (held : List ℕ) where
-  module _ (u v : List ℕ) (a : Gathered table order ticks held u new q) (b : Gathered table order ticks held v new q) where
-    same_number : (x : ℕ) → Dec (x < 7 * q) → get_or u x 0 ≡ get_or v x 0
-    same_number x (yes l) =
-        let p = x / 7 in
-        let inside : p < q = omega arith in
-        let at : 7 * p + x % 7 ≡ x = omega arith in
-        subst (λ (z : ℕ). get_or u z 0 ≡ get_or v z 0) at
-        (numbers_same u v p
-        ((a.each p inside).tick_is ∙ sym (b.each p inside).tick_is)
-        ((a.each p inside).pair_is ∙ sym (b.each p inside).pair_is)
-        (x % 7) (omega arith))
-    same_number x (no n) = a.beyond x (omega arith) ∙ sym (b.beyond x (omega arith))
+module _ (table order ticks : List ℕ) (q new : ℕ) (held : List Held) where
+  module _ (u v : List Held) (a : Gathered table order ticks held u new q) (b : Gathered table order ticks held v new q) where
+    same_place : (p : ℕ) → Dec (p < q) → held_at u p ≡ held_at v p
+    same_place p (yes l) =
+        numbers_same u v p
+        ((a.each p l).tick_is ∙ sym (b.each p l).tick_is) ((a.each p l).pair_is ∙ sym (b.each p l).pair_is)
+    same_place p (no n) = a.beyond p (omega arith) ∙ sym (b.beyond p (omega arith))
 
     gathered_unique : u ≡ v
     gathered_unique =
-        ext_get_or 0 u v (a.as_many ∙ sym b.as_many) (λ x h. same_number x (dec_lt x (7 * q)))
+        ext_get_or nobody u v (a.as_many ∙ sym b.as_many) (λ p h. same_place p (dec_lt p q))
 
-  pub gathering_unique : (u v : List ℕ) (r r' : Bool) →
+  pub gathering_unique : (u v : List Held) (r r' : Bool) →
       Gathering table order ticks q new held u r →
       Gathering table order ticks q new held v r' →
       (r ≡ r') × (u ≡ v)

@@ -10,16 +10,14 @@
 --                       of the goal ticks; no other place changed
 --     TicksUntouched    what is not served leaves the ticks as they came
 --     Priced            an answer: the cost, or that the input is none of those served
---     said_timed        what a `Timed` says
+--     said_timed        what an answer of src/ says: the cost, or nothing
 --     Timing            the promise: the answer with the ticks that it leaves
-use Rattle.std.specs.Prelude.{◌≡◌, List, [], ◌∷◌, ℕ, ◌≤◌, length, get_or}
+use Rattle.std.specs.Prelude.{◌≡◌, List, [], ◌∷◌, ℕ, ◌≤◌, length, get_or, Option, Some, None as Nothing}
 use Rattle.hall.specs.Limits.{carrier_limit, dwell_limit, table_length}
 use Rattle.hall.specs.Stages.{None}
 use Rattle.hall.specs.Questions.{each_order_place}
 use Rattle.hall.specs.Ticks.{StartTicks, cost_of}
 use Rattle.hall.specs.Plan.{tables_in}
-use Rattle.ticks.specs.declared.Timed.{Timed}
-use Rattle.ticks.specs.declared.Timed.TheVariants.{Cost, Unserved}
 
 pub record OrderServed (table order : List ℕ) (room : ℕ) : Type 0 where
   pub whole_table : table_length ≤ length table
@@ -46,9 +44,9 @@ pub data Priced : Type 0 where
   costs : ℕ → Priced
   not_served : Priced
 
-abbrev pub said_timed : Timed → Priced
-said_timed (Cost c) = costs c
-said_timed Unserved = not_served
+abbrev pub said_timed : Option ℕ → Priced
+said_timed (Some c) = costs c
+said_timed Nothing = not_served
 
 abbrev pub Timing : (table order : List ℕ) (dwell : ℕ) (ticks ticks' : List ℕ) → Priced → Type 0
 Timing table order dwell ticks ticks' (costs c) = Given table order dwell ticks ticks' c
