@@ -19,15 +19,15 @@ overflow_mul-value c =
 pub overflow_add-value : goal.overflow_add-value
 overflow_add-value c =
     let low = digits_low _ _ _ _ _ _ c.loop-left-test.true c.loop-left.invariant in
-    let read : DigitTaken c.args.text.now c.loop-left.here c.in-Got.d c.in-Got.next = c.in-Got.ensures in
+    let read : DigitTaken c.args.text.now c.loop-left.here c.in-Some.d c.in-Some.next = c.in-Some.ensures in
     omega (arith, low, read.below)
 
 pub loop-left-preserved : goal.loop-left-preserved
 loop-left-preserved c =
-    digits_next _ _ _ _ _ _ _ _ c.loop-left-test.true c.loop-left.invariant c.in-Got.ensures
+    digits_next _ _ _ _ _ _ _ _ c.loop-left-test.true c.loop-left.invariant c.in-Some.ensures
 
-pub returns-in-Bad : goal.returns-in-Bad
-returns-in-Bad c = digits_stop _ _ _ _ _ _ c.loop-left.invariant c.in-Bad.ensures
+pub returns-in_default : goal.returns-in_default
+returns-in_default c = digits_stop _ _ _ _ _ _ c.loop-left.invariant c.in_default.ensures
 
 pub returns : goal.returns
 returns c = digits_full _ _ _ _ _ _ (omega arith) c.loop-left.invariant
