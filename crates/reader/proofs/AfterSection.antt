@@ -13,6 +13,8 @@ use mathlib.Core.Logic.{inl, inr}
 use mathlib.Core.List.{List, [], ◌∷◌, ◌++◌}
 use mathlib.Core.Bool.{false}
 use Prim.Native.Nat.{ℕ, ◌≤◌}
+use Rattle.std.specs.Prelude.{Result, Ok, Err}
+use Rattle.hall.specs.declared.Refusal.{Refusal}
 use Rattle.hall.specs.declared.Job.{Job}
 use Rattle.form.specs.Sections.{Form, Content, content}
 use Rattle.form.specs.Stands.{within}
@@ -20,7 +22,6 @@ use Rattle.form.specs.JobText.{job_text}
 use Rattle.form.proofs.Tables.{collected_whole}
 use Rattle.form.proofs.Lengths.{most, fine_room}
 use Rattle.cursor.specs.declared.Cursor.{Cursor}
-use Rattle.reader.specs.declared.lines.Progress.{Progress}
 use Rattle.reader.specs.declared.sections.Sections.{Sections}
 use Rattle.reader.specs.Entries.{RefusedBy}
 use Rattle.reader.specs.Sections.{in_form, all_left, Stood, ReadyAt, Ready}
@@ -66,18 +67,18 @@ module _ {text : List ℕ} {which : Sections} {job job' : Job} {here next : Curs
 
 -- ---- a step
 
-abbrev pub AfterIt : (text : List ℕ) (P : Job → Cursor → Type 0) → Progress → Type 0
-AfterIt text P (Progress.On job here) = P job here
-AfterIt text P (Progress.Refused r) = RefusedBy text r
+abbrev pub AfterIt : (text : List ℕ) (P : Job → Cursor → Type 0) → Result (Job × Cursor) Refusal → Type 0
+AfterIt text P (Ok (job, here)) = P job here
+AfterIt text P (Err r) = RefusedBy text r
 
-pub record After (text : List ℕ) (P : Job → Cursor → Type 0) (p : Progress) : Type 0 where
+pub record After (text : List ℕ) (P : Job → Cursor → Type 0) (p : Result (Job × Cursor) Refusal) : Type 0 where
   pub holds : AfterIt text P p
 
 module _ (text closed : List ℕ) (which : Sections) (P : Job → Cursor → Type 0)
     (ready : (job : Job) (here : Cursor) → P job here → ReadyAt text closed which job here) where
-  pub ready_after : (p : Progress) → After text P p → Ready text closed which p
-  ready_after (Progress.On job here) x = ready job here x.holds
-  ready_after (Progress.Refused r) x = tt
+  pub ready_after : (p : Result (Job × Cursor) Refusal) → After text P p → Ready text closed which p
+  ready_after (Ok (job, here)) x = ready job here x.holds
+  ready_after (Err r) x = tt
 
   -- what is read of the section is a step from P to Q, and so is that it is missing
   pub step_after : (before after : List ℕ) (Q : Job → Cursor → Type 0)
@@ -87,17 +88,17 @@ module _ (text closed : List ℕ) (which : Sections) (P : Job → Cursor → Typ
       → ((job job' : Job) (here next : Cursor) → P job here
       → SectionMissing text which job job' here next before after
       → Q job' next)
-      → (p q : Progress) → After text P p → SectionStep text closed which before after p q → After text Q q
-  step_after before after Q onward past (Progress.Refused r) q x step =
+      → (p q : Result (Job × Cursor) Refusal) → After text P p → SectionStep text closed which before after p q → After text Q q
+  step_after before after Q onward past (Err r) q x step =
       record { holds = subst (AfterIt text Q) (sym step.takes) x.holds }
-  step_after before after Q onward past (Progress.On job here) q x step =
+  step_after before after Q onward past (Ok (job, here)) q x step =
       let r = ready job here x.holds in
       record { holds = answer q (step.takes r.read r.left r.asks r.stood) }
     where
-      answer : (q : Progress)
+      answer : (q : Result (Job × Cursor) Refusal)
           → SectionAnswer text which before after (ready job here x.holds).read
           (ready job here x.holds).left job here q
           → AfterIt text Q q
-      answer (Progress.On job' next) (inl a) = onward job job' here next x.holds a
-      answer (Progress.On job' next) (inr a) = past job job' here next x.holds a
-      answer (Progress.Refused r) a = a
+      answer (Ok (job', next)) (inl a) = onward job job' here next x.holds a
+      answer (Ok (job', next)) (inr a) = past job job' here next x.holds a
+      answer (Err r) a = a

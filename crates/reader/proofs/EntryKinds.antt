@@ -13,8 +13,9 @@ use mathlib.Core.List.{List}
 use Prim.Native.Nat.{ℕ, suc, ◌*◌, ◌≤◌, ◌<◌}
 use native.Mathlib.Omega.{arith}
 use lib.ListN.{length}
+use Rattle.std.specs.Prelude.{Result}
+use Rattle.hall.specs.declared.Refusal.{Refusal}
 use Rattle.hall.specs.declared.Job.{Job}
-use Rattle.hall.specs.declared.Checked.{Checked}
 use Rattle.hall.specs.Floor.{lanes_in}
 use Rattle.hall.specs.Job.{move_count}
 use Rattle.hall.specs.Stages.{only_at, at_each}
@@ -65,7 +66,7 @@ further_numbers Moves k n h = omega arith
 further_numbers Places k n h = omega arith
 
 pub judged_by_form : (which : Entries) (job : Job) (closed : List ℕ) (read : List Content) (table : List ℕ)
-    (k : ℕ) (c : Checked)
+    (k : ℕ) (c : Result Unit Refusal)
     → Asks (section_of which).entry job closed read
     → Judged (only_at k (each_in which job.nodes job.carriers closed table)) c
     → Judged (only_at k (at_each (places_in which table) (checks_of (section_of which).entry read table))) c

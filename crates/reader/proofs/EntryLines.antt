@@ -16,11 +16,10 @@ use native.Mathlib.Numerals.{add-one}
 use native.Mathlib.Omega.{arith}
 use lib.ListN.{length, take, drop, set}
 use lib.Seq.{drop-set-lt, drop-drop}
+use Rattle.std.specs.Prelude.{None, Some, Result, Ok, Err}
 use Rattle.hall.specs.declared.Fault.TheVariants.{Malformed}
 use Rattle.hall.specs.declared.Job.{Job}
 use Rattle.hall.specs.declared.Refusal.{Refusal}
-use Rattle.hall.specs.declared.Checked.{Checked}
-use Rattle.hall.specs.declared.Checked.TheVariants.{Sound}
 use Rattle.hall.specs.Stages.{only_at}
 use Rattle.hall.specs.Said.{Judged}
 use Rattle.form.specs.Lines.{Entered}
@@ -33,9 +32,7 @@ use Rattle.form.proofs.Tables.{stores_one, stores_two}
 use Rattle.form.proofs.Lengths.{reached_within}
 use Rattle.form.proofs.JobTexts.{job_room_lem}
 use Rattle.cursor.specs.declared.Cursor.{Cursor}
-use Rattle.cursor.specs.declared.Stepped.{Stepped}
 use Rattle.network.specs.declared.entries.Entries.{Entries}
-use Rattle.reader.specs.declared.lines.Progress.{Progress}
 use Rattle.cursor.specs.Steps.{line_limit, EntryTaken}
 use Rattle.network.specs.Entries.{places_in, each_in}
 use Rattle.reader.specs.Entries.{Asks, section_of, EntryStored, EntriesRead}
@@ -51,7 +48,7 @@ line_after r e = omega (arith, reached_within job_text r, job_room_lem)
 
 module _ (text : List ℕ) (k : ℕ) (here : Cursor) (table : List ℕ) where
   pub stored_one : (a : ℕ) (next : Cursor) → EntryTaken text here (a ∷ []) next → k < length table
-      → EntryStored text 1 k here table (set table k a) (Stepped.On next)
+      → EntryStored text 1 k here table (set table k a) (Some next)
   stored_one a next x h = record {
     answer = record {
       entered = x.taken;
@@ -63,7 +60,7 @@ module _ (text : List ℕ) (k : ℕ) (here : Cursor) (table : List ℕ) where
 
   pub stored_two : (a b : ℕ) (next : Cursor) → EntryTaken text here (a ∷ b ∷ []) next
       → 2 * k + 1 < length table
-      → EntryStored text 2 k here table (set (set table (2 * k) a) (2 * k + 1) b) (Stepped.On next)
+      → EntryStored text 2 k here table (set (set table (2 * k) a) (2 * k + 1) b) (Some next)
   stored_two a b next x h = record {
     answer = record {
       entered = x.taken;
@@ -75,7 +72,7 @@ module _ (text : List ℕ) (k : ℕ) (here : Cursor) (table : List ℕ) where
   }
 
   pub not_stored : (size : ℕ) → ¬ Entered size (drop here.at text)
-      → EntryStored text size k here table table Stepped.Bad
+      → EntryStored text size k here table table None
   not_stored size none = record { answer = none; kept = refl }
 
 -- ---- all lines
@@ -114,7 +111,7 @@ module _ (text : List ℕ) (which : Entries) (job : Job) (closed : List ℕ) (co
     room_here h room = omega (arith, further_numbers which (suc k) count h, l.size)
 
     pub lines_end : count ≤ k
-        → EntriesRead text which job closed count from before after (Progress.On job here)
+        → EntriesRead text which job closed count from before after (Ok (job, here))
     lines_end h = record {
       reads = λ read left asks r.
           let e : k ≡ count = omega (arith, l.few) in
@@ -129,9 +126,9 @@ module _ (text : List ℕ) (which : Entries) (job : Job) (closed : List ℕ) (co
           drop_further ((section_of which).size * suc k) ((section_of which).size * count) after' after
           (further_numbers which (suc k) count inside) e ∙ l.kept
 
-      pub lines_lack : (q : Progress)
-          → q ≡ Progress.Refused (record { fault = Malformed; place = here.line })
-          → EntryStored text (section_of which).size k here after after' Stepped.Bad
+      pub lines_lack : (q : Result (Job × Cursor) Refusal)
+          → q ≡ Err (record { fault = Malformed; place = here.line })
+          → EntryStored text (section_of which).size k here after after' None
           → EntriesRead text which job closed count from before after' q
       lines_lack q e st = rw e (record {
         reads = λ read left asks r.
@@ -142,11 +139,11 @@ module _ (text : List ℕ) (which : Entries) (job : Job) (closed : List ℕ) (co
 
       -- an entry was stored, and its checks were asked
       module _ (next : Cursor)
-          (st : EntryStored text (section_of which).size k here after after' (Stepped.On next))
-          (room : (section_of which).size * suc k ≤ length after') (c : Checked)
+          (st : EntryStored text (section_of which).size k here after after' (Some next))
+          (room : (section_of which).size * suc k ≤ length after') (c : Result Unit Refusal)
           (judged : Judged (only_at k (each_in which job.nodes job.carriers closed after')) c) where
-        pub lines_fail : (r : Refusal) → c ≡ Checked.Refused r
-            → (q : Progress) → q ≡ Progress.Refused (record { fault = r.fault; place = here.line })
+        pub lines_fail : (r : Refusal) → c ≡ Err r
+            → (q : Result (Job × Cursor) Refusal) → q ≡ Err (record { fault = r.fault; place = here.line })
             → EntriesRead text which job closed count from before after' q
         lines_fail r e q at_line = rw at_line (record {
           reads = λ read left asks x.
@@ -157,7 +154,7 @@ module _ (text : List ℕ) (which : Entries) (job : Job) (closed : List ℕ) (co
           kept = still_kept st.kept;
         })
 
-        pub lines_next : c ≡ Sound → length after' ≡ length after
+        pub lines_next : c ≡ Ok tt → length after' ≡ length after
             → LinesRead text which job closed count from before after' next (k + 1)
         lines_next e same = record {
           collected = λ read left asks r.

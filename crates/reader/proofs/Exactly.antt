@@ -14,6 +14,8 @@ use mathlib.Core.List.{List}
 use Prim.Native.Nat.{ℕ}
 use native.Mathlib.Omega.{arith}
 use lib.ListN.{take}
+use Rattle.std.specs.Prelude.{Result}
+use Rattle.hall.specs.declared.Refusal.{Refusal}
 use Rattle.hall.specs.declared.Job.{Job}
 use Rattle.hall.specs.Limits.{node_limit, carrier_limit, lane_numbers, move_numbers}
 use Rattle.hall.specs.Job.{Numbers}
@@ -23,7 +25,6 @@ use Rattle.form.specs.Texts.{Refused}
 use Rattle.form.specs.JobText.{job_text}
 use Rattle.form.specs.Jobs.{WrittenJob}
 use Rattle.form.proofs.JobTexts.{job_unique, first_47143}
-use Rattle.reader.specs.declared.Read.{Read}
 use Rattle.reader.specs.Reading.{said_read, counts_of, AnyShort, ReadInto}
 use Rattle.reader.specs.Reading.{Reason, short, faulty}
 use Rattle.reader.proofs.Unique.{reason_unique, no_reason, accepted_refused, read_unique}
@@ -145,7 +146,7 @@ module _ (text lanes closed moves order l c m o : List ℕ) where
     },
   )
 
-  pub first_bytes_read : (r r' : Read) (l' c' m' o' : List ℕ)
+  pub first_bytes_read : (r r' : Result Job Refusal) (l' c' m' o' : List ℕ)
       → ReadInto (take 47143 text) lanes closed moves order l c m o (said_read r)
       → ReadInto text lanes closed moves order l' c' m' o' (said_read r')
       → (r ≡ r') × (l ≡ l') × (c ≡ c') × (m ≡ m') × (o ≡ o')

@@ -8,6 +8,7 @@ use mathlib.Core.List.{List}
 use Prim.Native.Nat.{ℕ, ◌≤◌, ◌<◌}
 use native.Mathlib.Omega.{arith}
 use lib.ListN.{length, drop}
+use Rattle.std.specs.Prelude.{Result, Ok, Err}
 use Rattle.hall.specs.declared.Fault.TheVariants.{ShortTable}
 use Rattle.hall.specs.declared.Job.{Job}
 use Rattle.hall.specs.declared.Refusal.{Refusal}
@@ -17,7 +18,6 @@ use Rattle.hall.specs.Said.{refused}
 use Rattle.hall.specs.Left.{zeroed, left}
 use Rattle.hall.proofs.Left.{left_by_other}
 use Rattle.form.proofs.JobTexts.{refused_with}
-use Rattle.reader.specs.declared.Read.{Read}
 use Rattle.reader.specs.Entries.{RefusedBy}
 use Rattle.reader.specs.Reading.{said_read, AnyShort, short, faulty, ReadInto}
 use Rattle.reader.specs.Text.{Long, TextRead}
@@ -48,9 +48,9 @@ module _ (text lanes closed moves order : List ℕ) where
     order_left = refl;
   }
 
-  module _ (lanes' closed' moves' order' : List ℕ) (answer : Read)
+  module _ (lanes' closed' moves' order' : List ℕ) (answer : Result Job Refusal)
       (x : TextRead text lanes closed moves order lanes' closed' moves' order' answer) where
-    pub read_accepted : (counts : Job) → answer ≡ Read.Job counts
+    pub read_accepted : (counts : Job) → answer ≡ Ok counts
         → ReadInto text lanes closed moves order lanes' closed' moves' order' (said_read answer)
     read_accepted counts e = rw e (rw e at x.answer)
 
@@ -64,7 +64,7 @@ module _ (text lanes closed moves order : List ℕ) where
         ∙ sym (left_by_other (number_of r.fault) least before
         (refused_with text (number_of r.fault) r.place f).4)
 
-    pub read_refused : (r : Refusal) → answer ≡ Read.Refused r → ¬ AnyShort lanes closed moves order
+    pub read_refused : (r : Refusal) → answer ≡ Err r → ¬ AnyShort lanes closed moves order
         → length lanes' ≡ length lanes → length closed' ≡ length closed
         → length moves' ≡ length moves → length order' ≡ length order
         → (l c m o : List ℕ) → l ≡ zeroed lane_numbers lanes' → c ≡ zeroed node_limit closed'

@@ -14,6 +14,8 @@ use mathlib.Core.Bool.{true, false}
 use Prim.Native.Nat.{ℕ, ◌*◌, ◌≤◌, ◌<◌}
 use native.Mathlib.Omega.{arith}
 use lib.ListN.{length, take, drop}
+use Rattle.std.specs.Prelude.{Option, None, Some, Result, Ok, Err}
+use Rattle.hall.specs.declared.Refusal.{Refusal}
 use Rattle.hall.specs.declared.Fault.TheVariants.{Malformed, BadCount}
 use Rattle.hall.specs.declared.Job.{Job}
 use Rattle.hall.specs.Left.{zeroed}
@@ -25,10 +27,8 @@ use Rattle.form.specs.JobText.{job_text}
 use Rattle.form.specs.Reached.{Reached, Collected}
 use Rattle.form.proofs.Tables.{collected_start}
 use Rattle.cursor.specs.declared.Cursor.{Cursor}
-use Rattle.cursor.specs.declared.Numbered.{Numbered}
 use Rattle.cursor.specs.Steps.{CountTaken, Counting}
 use Rattle.network.specs.declared.entries.Entries.{Entries}
-use Rattle.reader.specs.declared.lines.Progress.{Progress}
 use Rattle.reader.specs.declared.sections.Sections.{Sections}
 use Rattle.reader.specs.declared.sections.Sections.TheVariants.{Listed}
 use Rattle.reader.specs.declared.sections.Terms.{Terms}
@@ -49,8 +49,8 @@ pub word_there : (which : Sections) (k : ℕ) (terms : Terms) → terms ≡ term
     → (terms.from ≤ terms.to) × (terms.to ≤ length words)
 word_there which k terms is = rw is ((word_in which k).1, (word_in which k).2)
 
-module _ (text closed : List ℕ) (which : Sections) (p : Progress) (job : Job) (here : Cursor)
-    (on : p ≡ Progress.On job here) (before table : List ℕ)
+module _ (text closed : List ℕ) (which : Sections) (p : Result (Job × Cursor) Refusal) (job : Job) (here : Cursor)
+    (on : p ≡ Ok (job, here)) (before table : List ℕ)
     (terms : Terms) (is_terms : terms ≡ terms_in which job.carriers)
     (zeros : table ≡ zeroed terms.room before) (long : room_of which ≤ length before) where
   abbrev shut : List ℕ
@@ -73,17 +73,17 @@ module _ (text closed : List ℕ) (which : Sections) (p : Progress) (job : Job) 
   word_here =
       ap (λ (t : Terms). word_from t.from t.to) is_terms ∙ (word_in which job.carriers).0
 
-  module _ (a : Numbered) (c : Counting text (word_from terms.from terms.to) here a) where
+  module _ (a : Option (ℕ × Cursor)) (c : Counting text (word_from terms.from terms.to) here a) where
     at_word : Counting text (in_form which).word here a
     at_word = subst (λ (w : List ℕ). Counting text w here a) word_here c
 
     -- no line of its count stands
-    module _ (bad : a ≡ Numbered.Bad) where
+    module _ (bad : a ≡ None) where
       none_here : ¬ Counted (in_form which).word (drop here.at text)
       none_here = (rw bad at at_word) (capitals which)
 
       pub step_missing : terms.optional ≡ true
-          → SectionStep text closed which before table p (Progress.On job here)
+          → SectionStep text closed which before table p (Ok (job, here))
       step_missing may = rw on (record {
         takes = λ read left asks x. inr (record {
           may = optional_here ∙ may;
@@ -96,7 +96,7 @@ module _ (text closed : List ℕ) (which : Sections) (p : Progress) (job : Job) 
       })
 
       pub step_lacks : terms.optional ≡ false
-          → (r : Progress) → r ≡ Progress.Refused (record { fault = Malformed; place = here.line })
+          → (r : Result (Job × Cursor) Refusal) → r ≡ Err (record { fault = Malformed; place = here.line })
           → SectionStep text closed which before table p r
       step_lacks must r e = rw (on, e) (record {
         takes = λ read left asks x.
@@ -106,12 +106,12 @@ module _ (text closed : List ℕ) (which : Sections) (p : Progress) (job : Job) 
       })
 
     -- its count was read
-    module _ (n : ℕ) (next : Cursor) (got : a ≡ Numbered.Got n next) where
+    module _ (n : ℕ) (next : Cursor) (got : a ≡ Some (n, next)) where
       taken : CountTaken text (in_form which).word here n next
       taken = rw got at at_word
 
-      module _ (r : Progress)
-          (e : r ≡ Progress.Refused (record { fault = BadCount; place = here.line })) where
+      module _ (r : Result (Job × Cursor) Refusal)
+          (e : r ≡ Err (record { fault = BadCount; place = here.line })) where
         step_unfit : ¬ ((terms.least ≤ n) × (n ≤ terms.greatest))
             → SectionStep text closed which before table p r
         step_unfit unfit = rw (on, e) (record {
@@ -167,7 +167,7 @@ module _ (text closed : List ℕ) (which : Sections) (p : Progress) (job : Job) 
             }
 
         pub step_counted : ((e : Entries) → ¬ (which ≡ Listed e))
-            → SectionStep text closed which before table p (Progress.On job' next)
+            → SectionStep text closed which before table p (Ok (job', next))
         step_counted alone = rw on (record {
           takes = λ read left asks x. inl (section_read read left asks table refl refl next
               (rw (no_entries which alone n) (collected_start job_text text read (in_form which) n left table
@@ -218,7 +218,7 @@ module _ (text closed : List ℕ) (which : Sections) (p : Progress) (job : Job) 
               }
 
           pub step_entries : (after : List ℕ) → length after ≡ length table
-              → (r : Progress) → EntriesRead text e job' shut n next table after r
+              → (r : Result (Job × Cursor) Refusal) → EntriesRead text e job' shut n next table after r
               → SectionStep text closed which before after p r
           step_entries after same r x = rw on (record {
             takes = λ read left asks stood.
@@ -227,12 +227,12 @@ module _ (text closed : List ℕ) (which : Sections) (p : Progress) (job : Job) 
                 ∙ beyond_here;
           })
             where
-              answer : (r : Progress) (read : List Content) (left : Form)
+              answer : (r : Result (Job × Cursor) Refusal) (read : List Content) (left : Form)
                   → Asks (in_form which).entry job shut read
                   → EntriesAnswer text read (section_of e) n left job' after r
                   → SectionAnswer text which before after read left job here r
-              answer (Progress.Refused q) read left asks a = a
-              answer (Progress.On job'' to) read left asks a =
+              answer (Err q) read left asks a = a
+              answer (Ok (job'', to)) read left asks a =
                   inl (rw a.0
                   (section_read read left asks after same
                   (rw (due_here (in_form which) section_is) x.kept)

@@ -9,6 +9,8 @@ use mathlib.Core.List.{List, [], ◌∷◌, ◌++◌, append_assoc}
 use Prim.Native.Nat.{ℕ, ◌≤◌, ◌<◌}
 use native.Mathlib.Omega.{arith}
 use lib.ListN.{length, length-drop, drop_of_length-le}
+use Rattle.std.specs.Prelude.{Result, Ok, Err}
+use Rattle.hall.specs.declared.Refusal.{Refusal}
 use Rattle.hall.specs.declared.Fault.TheVariants.{Malformed}
 use Rattle.hall.specs.declared.Job.{Job}
 use Rattle.hall.specs.Floor.{network_of}
@@ -21,9 +23,7 @@ use Rattle.form.proofs.Reached.{at_end}
 use Rattle.form.proofs.JobSections.{closed_read, dwell_stands, job_sections}
 use Rattle.form.proofs.JobTexts.{job_read, lanes_counted, closed_counted, carriers_counted}
 use Rattle.cursor.specs.declared.Cursor.{Cursor}
-use Rattle.reader.specs.declared.lines.Progress.{Progress}
 use Rattle.reader.specs.declared.sections.Sections.TheVariants.{Dwell}
-use Rattle.reader.specs.declared.Read.{Read}
 use Rattle.reader.specs.Reading.{AnyShort}
 use Rattle.reader.specs.Sections.{with_count, Stood, SectionRead, SectionMissing, SectionStep}
 use Rattle.reader.specs.Sections.{EndAnswer, EndStep}
@@ -36,12 +36,12 @@ use Rattle.reader.proofs.TextStands.{up_to_order, OrderAt, DwellAt, order-reads}
 
 module _ (text : List ℕ) (job : Job) (here : Cursor) where
   pub end_lacks : here.at < length text
-      → EndStep text (Progress.On job here) (Read.Refused (record { fault = Malformed; place = here.line }))
+      → EndStep text (Ok (job, here)) (Err (record { fault = Malformed; place = here.line }))
   end_lacks h read x =
       skipped_over job_text text x.reached x.whole x.is_left
       (λ z. let l = ap length z in let y : ⊥ = omega (arith, length-drop here.at text) in y)
 
-  pub end_here : length text ≤ here.at → EndStep text (Progress.On job here) (Read.Job job)
+  pub end_here : length text ≤ here.at → EndStep text (Ok (job, here)) (Ok job)
   end_here h read x =
       let may = (skips_lack x.is_left).1 tt in
       let form = at_end job_text text x.reached (x.whole, may) (drop_of_length-le text h) in
@@ -115,7 +115,7 @@ module _ (text lanes lanes' closed closed' moves moves' order order' : List ℕ)
     order_left = x.order_left;
   }
 
-  pub after_dwell : (before after : List ℕ) (p q : Progress) → After text ReadOrder p
+  pub after_dwell : (before after : List ℕ) (p q : Result (Job × Cursor) Refusal) → After text ReadOrder p
       → SectionStep text closed' Dwell before after p q
       → After text ReadDwell q
   unfolding order-reads
@@ -127,21 +127,21 @@ module _ (text lanes lanes' closed closed' moves moves' order order' : List ℕ)
   -- ---- the answer
 
   pub text_answer : ¬ AnyShort lanes closed moves order
-      → (p : Progress) (r : Read) → After text ReadDwell p → EndStep text p r
+      → (p : Result (Job × Cursor) Refusal) (r : Result Job Refusal) → After text ReadDwell p → EndStep text p r
       → TextAnswer text lanes closed moves order lanes' closed' moves' order' r
-  text_answer long (Progress.Refused q) r x e =
+  text_answer long (Err q) r x e =
       subst (TextAnswer text lanes closed moves order lanes' closed' moves' order') (sym e) x.holds
-  text_answer long (Progress.On job here) r x e =
+  text_answer long (Ok (job, here)) r x e =
       answer r x.holds (e (sections_of x.holds) x.holds.stood)
     where
       sections_of : ReadDwell job here → List Content
       sections_of x =
           job_sections x.n x.m x.k x.p x.w x.none x.ls x.cs x.ms x.os
 
-      answer : (r : Read) (x : ReadDwell job here) → EndAnswer text (sections_of x) job r
+      answer : (r : Result Job Refusal) (x : ReadDwell job here) → EndAnswer text (sections_of x) job r
           → TextAnswer text lanes closed moves order lanes' closed' moves' order' r
-      answer (Read.Refused q) x a = a
-      answer (Read.Job j) x a =
+      answer (Err q) x a = a
+      answer (Ok j) x a =
           let form = a.1 in
           let n = x.n in
           let m = x.m in

@@ -9,6 +9,8 @@ use mathlib.Core.List.{List, [], ◌∷◌, ◌++◌, append_assoc}
 use Prim.Native.Nat.{ℕ, ◌*◌, ◌≤◌}
 use native.Mathlib.Omega.{arith}
 use lib.ListN.{length}
+use Rattle.std.specs.Prelude.{Result}
+use Rattle.hall.specs.declared.Refusal.{Refusal}
 use Rattle.hall.specs.declared.Job.{Job}
 use Rattle.hall.specs.Limits.{node_limit}
 use Rattle.hall.proofs.Left.{filled_none}
@@ -17,7 +19,6 @@ use Rattle.form.specs.Words.{NODES, LANES, CARRIERS, ORDER}
 use Rattle.form.proofs.JobSections.{closed_read, closed_stands}
 use Rattle.cursor.specs.declared.Cursor.{Cursor}
 use Rattle.network.specs.declared.entries.Entries.TheVariants.{Lanes, Closed, Moves, Places}
-use Rattle.reader.specs.declared.lines.Progress.{Progress}
 use Rattle.reader.specs.declared.sections.Sections.TheVariants.{Nodes, Listed}
 use Rattle.reader.specs.Sections.{counting, with_count, Stood, SectionRead, SectionMissing, SectionStep}
 use Rattle.reader.proofs.AfterSection.{stood_behind, few_counted, stood_past, not_missing}
@@ -28,7 +29,7 @@ use Rattle.reader.proofs.TextStands.{start-reads, nodes-reads, lanes-reads, clos
 use Rattle.reader.proofs.TextStands.{carriers-reads}
 
 module _ (text : List ℕ) where
-  pub after_nodes : (before after : List ℕ) (p q : Progress) → After text (StartAt text) p
+  pub after_nodes : (before after : List ℕ) (p q : Result (Job × Cursor) Refusal) → After text (StartAt text) p
       → SectionStep text [] Nodes before after p q → After text (NodesAt text) q
   unfolding start-reads
   after_nodes before after =
@@ -45,7 +46,7 @@ module _ (text : List ℕ) where
     abbrev ReadLanes : Job → Cursor → Type 0
     ReadLanes = LanesAt text lanes lanes'
 
-    pub after_lanes : (p q : Progress) → After text (NodesAt text) p
+    pub after_lanes : (p q : Result (Job × Cursor) Refusal) → After text (NodesAt text) p
         → SectionStep text [] (Listed Lanes) lanes lanes' p q → After text ReadLanes q
     unfolding nodes-reads
     after_lanes =
@@ -115,7 +116,7 @@ module _ (text : List ℕ) where
       }
 
       pub after_closed : node_limit ≤ length closed → length closed' ≡ length closed
-          → (p q : Progress) → After text ReadLanes p
+          → (p q : Result (Job × Cursor) Refusal) → After text ReadLanes p
           → SectionStep text [] (Listed Closed) closed closed' p q
           → After text ReadClosed q
       unfolding lanes-reads
@@ -128,7 +129,7 @@ module _ (text : List ℕ) where
         abbrev ReadCarriers : Job → Cursor → Type 0
         ReadCarriers = CarriersAt text lanes lanes' closed closed' moves moves'
 
-        pub after_carriers : (p q : Progress) → After text ReadClosed p
+        pub after_carriers : (p q : Result (Job × Cursor) Refusal) → After text ReadClosed p
             → SectionStep text closed' (Listed Moves) moves moves' p q
             → After text ReadCarriers q
         unfolding closed-reads
@@ -156,7 +157,7 @@ module _ (text : List ℕ) where
           abbrev ReadOrder : Job → Cursor → Type 0
           ReadOrder = OrderAt text lanes lanes' closed closed' moves moves' order order'
 
-          pub after_order : (p q : Progress) → After text ReadCarriers p
+          pub after_order : (p q : Result (Job × Cursor) Refusal) → After text ReadCarriers p
               → SectionStep text closed' (Listed Places) order order' p q
               → After text ReadOrder q
           unfolding carriers-reads

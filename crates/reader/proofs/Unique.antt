@@ -11,6 +11,8 @@ use mathlib.Core.Path.{◌≡◌, sym, ◌∙◌, ap}
 use mathlib.Core.List.{List}
 use Prim.Native.Nat.{ℕ}
 use native.Mathlib.Omega.{arith}
+use Rattle.std.specs.Prelude.{Result, Ok, Err}
+use Rattle.hall.specs.declared.Refusal.{Refusal}
 use Rattle.hall.specs.declared.Job.{Job}
 use Rattle.hall.specs.Job.{Numbers}
 use Rattle.hall.specs.Numbers.{number_of}
@@ -18,19 +20,18 @@ use Rattle.hall.specs.Said.{Said, accepted, refused}
 use Rattle.hall.proofs.Numbers.{number_one_fault}
 use Rattle.form.specs.Jobs.{WrittenJob}
 use Rattle.form.proofs.JobTexts.{job_unique, never_both, one_refusal}
-use Rattle.reader.specs.declared.Read.{Read}
 use Rattle.reader.specs.Reading.{said_read, counts_of, AnyShort, AcceptedAs, ReadInto}
 use Rattle.reader.specs.Reading.{Reason, short, faulty}
 
-pub said_read_one : (a b : Read) → said_read a ≡ said_read b → a ≡ b
-said_read_one (Read.Job i) (Read.Job j) e = let same : i ≡ j = cc in ap Read.Job same
-said_read_one (Read.Job i) (Read.Refused r) e = absurd (let z : ◌≡◌ {A = ℕ} 0 1 = cc in omega arith)
-said_read_one (Read.Refused r) (Read.Job i) e = absurd (let z : ◌≡◌ {A = ℕ} 0 1 = cc in omega arith)
-said_read_one (Read.Refused r) (Read.Refused s) e =
+pub said_read_one : (a b : Result Job Refusal) → said_read a ≡ said_read b → a ≡ b
+said_read_one (Ok i) (Ok j) e = let same : i ≡ j = cc in ap Ok same
+said_read_one (Ok i) (Err r) e = absurd (let z : ◌≡◌ {A = ℕ} 0 1 = cc in omega arith)
+said_read_one (Err r) (Ok i) e = absurd (let z : ◌≡◌ {A = ℕ} 0 1 = cc in omega arith)
+said_read_one (Err r) (Err s) e =
     let number : number_of r.fault ≡ number_of s.fault = cc in
     let place : r.place ≡ s.place = cc in
     let fault = number_one_fault r.fault s.fault number in
-    λ i. Read.Refused (record { fault = fault i; place = place i })
+    λ i. Err (record { fault = fault i; place = place i })
 
 pub reason_unique : {Short : Type 0} (text : List ℕ) (n m line at : ℕ)
     → Reason Short text n line → Reason Short text m at
@@ -67,7 +68,7 @@ module _ (text lanes closed moves order : List ℕ) where
         let number = e.0 in
         ((λ i. refused (e.0 i) (e.1 i)), (cc), (cc), (cc), (cc))
 
-    pub read_unique : (r r' : Read)
+    pub read_unique : (r r' : Result Job Refusal)
         → ReadInto text lanes closed moves order l c m o (said_read r)
         → ReadInto text lanes closed moves order l' c' m' o' (said_read r')
         → (r ≡ r') × (l ≡ l') × (c ≡ c') × (m ≡ m') × (o ≡ o')

@@ -10,7 +10,7 @@
 --     EntriesRead    all entries were read and stand in the table, and the counts are as they came; or the
 --                    text is refused
 -- `Stored`, `StoredAnswer` and `EntriesAnswer` are parts of these, by what is answered.
-use Rattle.std.specs.Prelude.{◌≡◌, List, [], ◌++◌, ℕ, suc, ◌*◌, ◌≤◌, length, take, drop}
+use Rattle.std.specs.Prelude.{◌≡◌, List, [], ◌++◌, ℕ, suc, ◌*◌, ◌≤◌, length, take, drop, Option, None, Some, Result, Ok, Err}
 use Rattle.hall.specs.declared.Job.{Job}
 use Rattle.hall.specs.declared.Refusal.{Refusal}
 use Rattle.hall.specs.Limits.{carrier_limit}
@@ -24,11 +24,9 @@ use Rattle.form.specs.Texts.{Refused}
 use Rattle.form.specs.JobText.{lanes_section, closed_section, carriers_section, order_section, job_text}
 use Rattle.form.specs.Reached.{Reached, Collected}
 use Rattle.cursor.specs.declared.Cursor.{Cursor}
-use Rattle.cursor.specs.declared.Stepped.{Stepped}
 use Rattle.cursor.specs.Steps.{Behind}
 use Rattle.network.specs.declared.entries.Entries.{Entries}
 use Rattle.network.specs.declared.entries.Entries.TheVariants.{Lanes, Closed, Moves, Places}
-use Rattle.reader.specs.declared.lines.Progress.{Progress}
 
 abbrev pub RefusedBy : (text : List ℕ) → Refusal → Type 0
 RefusedBy text r = Refused job_text text (number_of r.fault) r.place
@@ -54,12 +52,12 @@ pub record Stored (text : List ℕ) (size k : ℕ) (here next : Cursor) (before 
   pub behind : Behind text here next entered.rest
   pub stores : take (size * suc k) after ≡ take (size * k) before ++ entered.e
 
-abbrev pub StoredAnswer : (text : List ℕ) (size k : ℕ) (here : Cursor) (before after : List ℕ) → Stepped
+abbrev pub StoredAnswer : (text : List ℕ) (size k : ℕ) (here : Cursor) (before after : List ℕ) → Option Cursor
     → Type 0
-StoredAnswer text size k here before after (Stepped.On next) = Stored text size k here next before after
-StoredAnswer text size k here before after Stepped.Bad = ¬ Entered size (drop here.at text)
+StoredAnswer text size k here before after (Some next) = Stored text size k here next before after
+StoredAnswer text size k here before after None = ¬ Entered size (drop here.at text)
 
-pub record EntryStored (text : List ℕ) (size k : ℕ) (here : Cursor) (before after : List ℕ) (r : Stepped)
+pub record EntryStored (text : List ℕ) (size k : ℕ) (here : Cursor) (before after : List ℕ) (r : Option Cursor)
     : Type 0 where
   pub answer : StoredAnswer text size k here before after r
   pub kept : drop (size * suc k) after ≡ drop (size * suc k) before
@@ -76,14 +74,14 @@ pub record Begun (text : List ℕ) (which : Entries) (job : Job) (closed : List 
   pub room : (section_of which).size * count ≤ length table
 
 abbrev pub EntriesAnswer : (text : List ℕ) (read : List Content) (s : Section) (count : ℕ) (left : Form)
-    (job : Job) (table : List ℕ) → Progress → Type 0
-EntriesAnswer text read s count left job table (Progress.On job' next) =
+    (job : Job) (table : List ℕ) → Result (Job × Cursor) Refusal → Type 0
+EntriesAnswer text read s count left job table (Ok (job', next)) =
     (job' ≡ job)
     × Collected job_text text read s count left (due s count) table (drop next.at text) next.line
-EntriesAnswer text read s count left job table (Progress.Refused r) = RefusedBy text r
+EntriesAnswer text read s count left job table (Err r) = RefusedBy text r
 
 pub record EntriesRead (text : List ℕ) (which : Entries) (job : Job) (closed : List ℕ) (count : ℕ)
-    (from : Cursor) (before after : List ℕ) (r : Progress) : Type 0 where
+    (from : Cursor) (before after : List ℕ) (r : Result (Job × Cursor) Refusal) : Type 0 where
   pub reads : (read : List Content) (left : Form)
       → Asks (section_of which).entry job closed read
       → Reached job_text text (within read (section_of which) count [] left) (drop from.at text) from.line

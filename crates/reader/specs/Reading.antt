@@ -19,23 +19,22 @@
 --     RefusedWith    a reason, and what is left in the tables: 9 leaves them as they came, any other number
 --                    zeroes their least lengths (rules 9.4 and 9.6)
 --     ReadInto       the promise of reading, by what is said; the tables are as lent and, marked ', as left
-use Rattle.std.specs.Prelude.{◌≡◌, ◌⊎◌, List, ℕ, ◌*◌, ◌<◌, length, take}
+use Rattle.std.specs.Prelude.{◌≡◌, ◌⊎◌, List, ℕ, ◌*◌, ◌<◌, length, take, Result}
+use Rattle.hall.specs.declared.Refusal.{Refusal}
 use Rattle.hall.specs.declared.Fault.TheVariants.{ShortTable}
 use Rattle.hall.specs.declared.Job.{Job}
 use Rattle.hall.specs.Limits.{node_limit, carrier_limit, lane_numbers, move_numbers}
 use Rattle.hall.specs.Floor.{lanes_in, network_of}
 use Rattle.hall.specs.Job.{Numbers, job_of, carriers}
 use Rattle.hall.specs.Numbers.{number_of}
-use Rattle.hall.specs.Said.{Said, accepted, refused, said_refusal}
+use Rattle.hall.specs.Said.{Said, accepted, refused, said}
 use Rattle.hall.specs.Left.{filled, left}
 use Rattle.form.specs.Texts.{Refused}
 use Rattle.form.specs.JobText.{job_text}
 use Rattle.form.specs.Jobs.{WrittenJob}
-use Rattle.reader.specs.declared.Read.{Read}
 
-abbrev pub said_read : Read → Said Job
-said_read (Read.Job counts) = accepted counts
-said_read (Read.Refused r) = said_refusal r
+abbrev pub said_read : Result Job Refusal → Said Job
+said_read = said (λ counts. counts)
 
 abbrev pub TooShort : (lanes closed moves order : ℕ) → Type 0
 TooShort lanes closed moves order =

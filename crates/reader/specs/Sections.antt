@@ -21,7 +21,8 @@
 --                    through. Places from the least length on are as they were, whatever it answers
 --     EndStep        what the last step answers: the text is accepted with the sections read, or refused
 -- `terms`, `counting`, `ReadyAt`, `SectionAnswer`, `SectionTaken` and `EndAnswer` are parts of these.
-use Rattle.std.specs.Prelude.{◌≡◌, ◌⊎◌, List, [], ◌∷◌, ◌++◌, Bool, true, false, ℕ, ◌-◌, ◌≤◌, length, take, drop}
+use Rattle.std.specs.Prelude.{◌≡◌, ◌⊎◌, List, [], ◌∷◌, ◌++◌, Bool, true, false, ℕ, ◌-◌, ◌≤◌, length, take, drop, Result, Ok, Err}
+use Rattle.hall.specs.declared.Refusal.{Refusal}
 use Rattle.hall.specs.declared.Job.{Job}
 use Rattle.hall.specs.Limits.{node_limit, lane_limit, carrier_limit, dwell_limit, lane_numbers, move_numbers}
 use Rattle.hall.specs.Left.{zeroed, filled}
@@ -34,11 +35,9 @@ use Rattle.form.specs.JobText.{nodes_section, dwell_section, job_text}
 use Rattle.form.specs.Reached.{Reached, Collected}
 use Rattle.cursor.specs.declared.Cursor.{Cursor}
 use Rattle.network.specs.declared.entries.Entries.TheVariants.{Lanes, Closed, Moves, Places}
-use Rattle.reader.specs.declared.lines.Progress.{Progress}
 use Rattle.reader.specs.declared.sections.Sections.{Sections}
 use Rattle.reader.specs.declared.sections.Sections.TheVariants.{Nodes, Dwell, Listed}
 use Rattle.reader.specs.declared.sections.Terms.{Terms}
-use Rattle.reader.specs.declared.Read.{Read}
 use Rattle.reader.specs.Entries.{RefusedBy, Asks, section_of}
 
 -- ---- the sections
@@ -107,9 +106,9 @@ pub record ReadyAt (text closed : List ℕ) (which : Sections) (job : Job) (here
   pub few_closed : job.closed ≤ length closed
   pub stood : Stood text read (in_form which ∷ left) here
 
-abbrev pub Ready : (text closed : List ℕ) (which : Sections) → Progress → Type 0
-Ready text closed which (Progress.On job here) = ReadyAt text closed which job here
-Ready text closed which (Progress.Refused r) = Unit
+abbrev pub Ready : (text closed : List ℕ) (which : Sections) → Result (Job × Cursor) Refusal → Type 0
+Ready text closed which (Ok (job, here)) = ReadyAt text closed which job here
+Ready text closed which (Err r) = Unit
 
 pub record SectionRead (text : List ℕ) (read : List Content) (which : Sections) (left : Form) (job job' : Job)
     (next : Cursor) (before after : List ℕ) : Type 0 where
@@ -129,33 +128,33 @@ pub record SectionMissing (text : List ℕ) (which : Sections) (job job' : Job) 
   pub zeroes : after ≡ zeroed (room_of which) before
 
 module _ (text : List ℕ) (which : Sections) (before after : List ℕ) where
-  abbrev pub SectionAnswer : (read : List Content) (left : Form) (job : Job) (here : Cursor) → Progress
+  abbrev pub SectionAnswer : (read : List Content) (left : Form) (job : Job) (here : Cursor) → Result (Job × Cursor) Refusal
       → Type 0
-  SectionAnswer read left job here (Progress.On job' next) =
+  SectionAnswer read left job here (Ok (job', next)) =
       SectionRead text read which left job job' next before after
       ⊎ SectionMissing text which job job' here next before after
-  SectionAnswer read left job here (Progress.Refused r) = RefusedBy text r
+  SectionAnswer read left job here (Err r) = RefusedBy text r
 
-  abbrev pub SectionTaken : (closed : List ℕ) (so_far : Progress) → Progress → Type 0
-  SectionTaken closed (Progress.On job here) r =
+  abbrev pub SectionTaken : (closed : List ℕ) (so_far : Result (Job × Cursor) Refusal) → Result (Job × Cursor) Refusal → Type 0
+  SectionTaken closed (Ok (job, here)) r =
       (read : List Content) (left : Form)
       → Asks (in_form which).entry job (take job.closed closed) read
       → Stood text read (in_form which ∷ left) here
       → SectionAnswer read left job here r
-  SectionTaken closed (Progress.Refused q) r = r ≡ Progress.Refused q
+  SectionTaken closed (Err q) r = r ≡ Err q
 
 pub record SectionStep (text closed : List ℕ) (which : Sections) (before after : List ℕ)
-    (so_far r : Progress) : Type 0 where
+    (so_far r : Result (Job × Cursor) Refusal) : Type 0 where
   pub takes : SectionTaken text which before after closed so_far r
   pub beyond : drop (room_of which) after ≡ drop (room_of which) before
 
 -- ---- the end
 
-abbrev pub EndAnswer : (text : List ℕ) (read : List Content) (job : Job) → Read → Type 0
-EndAnswer text read job (Read.Job j) = (j ≡ job) × WrittenForm job_text text read
-EndAnswer text read job (Read.Refused r) = RefusedBy text r
+abbrev pub EndAnswer : (text : List ℕ) (read : List Content) (job : Job) → Result Job Refusal → Type 0
+EndAnswer text read job (Ok j) = (j ≡ job) × WrittenForm job_text text read
+EndAnswer text read job (Err r) = RefusedBy text r
 
-abbrev pub EndStep : (text : List ℕ) (so_far : Progress) → Read → Type 0
-EndStep text (Progress.On job here) r =
+abbrev pub EndStep : (text : List ℕ) (so_far : Result (Job × Cursor) Refusal) → Result Job Refusal → Type 0
+EndStep text (Ok (job, here)) r =
     (read : List Content) → Stood text read [] here → EndAnswer text read job r
-EndStep text (Progress.Refused q) r = r ≡ Read.Refused q
+EndStep text (Err q) r = r ≡ Err q

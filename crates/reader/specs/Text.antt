@@ -3,9 +3,10 @@
 --     Long        every table has its least length at least
 --     TextRead    the text writes a job, which is answered and fills the tables; or it is refused. From the
 --                 least lengths on nothing has changed. `TextAnswer` is its part by what is answered
-use Rattle.std.specs.Prelude.{◌≡◌, List, ℕ, ◌≤◌, length, drop}
+use Rattle.std.specs.Prelude.{◌≡◌, List, ℕ, ◌≤◌, length, drop, Result, Ok, Err}
+use Rattle.hall.specs.declared.Job.{Job}
+use Rattle.hall.specs.declared.Refusal.{Refusal}
 use Rattle.hall.specs.Limits.{node_limit, carrier_limit, lane_numbers, move_numbers}
-use Rattle.reader.specs.declared.Read.{Read}
 use Rattle.reader.specs.Entries.{RefusedBy}
 use Rattle.reader.specs.Reading.{AcceptedAs}
 
@@ -16,11 +17,11 @@ pub record Long (lanes closed moves order : List ℕ) : Type 0 where
   pub order_long : carrier_limit ≤ length order
 
 module _ (text lanes closed moves order lanes' closed' moves' order' : List ℕ) where
-  abbrev pub TextAnswer : Read → Type 0
-  TextAnswer (Read.Job counts) = AcceptedAs text lanes closed moves order lanes' closed' moves' order' counts
-  TextAnswer (Read.Refused r) = RefusedBy text r
+  abbrev pub TextAnswer : Result Job Refusal → Type 0
+  TextAnswer (Ok counts) = AcceptedAs text lanes closed moves order lanes' closed' moves' order' counts
+  TextAnswer (Err r) = RefusedBy text r
 
-  pub record TextRead (r : Read) : Type 0 where
+  pub record TextRead (r : Result Job Refusal) : Type 0 where
     pub answer : TextAnswer r
     pub beyond_lanes : drop lane_numbers lanes' ≡ drop lane_numbers lanes
     pub beyond_closed : drop node_limit closed' ≡ drop node_limit closed

@@ -9,10 +9,9 @@ ghost use Rattle.hall.specs.Rule.{Answers};
 ghost use Rattle.reader.specs.Reading.{said_read, TooShort, ReadInto};
 ghost use Rattle.reader.specs.Text.{Long, TextRead};
 
-use crate::lines::Progress;
 use crate::sections::{Sections, at_end, section};
 use cursor::Cursor;
-use hall::zero::zero_first;
+use hall::zero::fill_first;
 use hall::{Fault, Job, Refusal};
 use network::entries::Entries;
 
@@ -23,30 +22,14 @@ pub mod sections;
 // one more than the least output of writing, which every accepted text fits into.
 pub const FIRST_BYTES: usize = Job::TEXT_BYTES + 1;
 
-// The counts of an accepted job and its dwell, or the refusal with its line.
-#[derive(Drop)]
-pub enum Read {
-    Job(Job),
-    Refused(Refusal),
-}
-
 // Whether a table of those lengths is shorter than its least length.
 fn too_short(lanes: usize, closed: usize, moves: usize, order: usize) -> bool
     ensures { Answers result (TooShort lanes closed moves order) }
 {
-    if lanes < Job::LANE_NUMBERS {
-        return true;
-    }
-    if closed < Job::NODES {
-        return true;
-    }
-    if moves < Job::MOVE_NUMBERS {
-        return true;
-    }
-    if order < Job::CARRIERS {
-        return true;
-    }
-    false
+    lanes < Job::LANE_NUMBERS
+        || closed < Job::NODES
+        || moves < Job::MOVE_NUMBERS
+        || order < Job::CARRIERS
 }
 
 // The sections in their order, into tables that are long enough, and the end. The nodes and the dwell go into
@@ -58,7 +41,7 @@ fn read_text(
     closed: &mut [u16],
     moves: &mut [u16],
     order: &mut [u16],
-) -> Read
+) -> Result<Job, Refusal>
     requires { Long lanes.old closed.old moves.old order.old }
     ensures { TextRead text.now
         lanes.old
@@ -72,7 +55,7 @@ fn read_text(
         result }
 {
     let none: &[u16] = &[];
-    let mut read = Progress::On(Job::empty(), Cursor::start());
+    let mut read = Ok((Job::empty(), Cursor::start()));
     read = section(text, read, Sections::Nodes, none, lanes);
     read = section(text, read, Sections::Listed(Entries::Lanes), none, lanes);
     read = section(text, read, Sections::Listed(Entries::Closed), none, closed);
@@ -84,14 +67,15 @@ fn read_text(
 }
 
 // Reads a job text. The lanes' numbers go to `lanes`, the closed nodes to `closed`, the starts and goals of
-// the carriers by turns to `moves`, and the order to `order`; the counts and the dwell are answered.
+// the carriers by turns to `moves`, and the order to `order`; the counts and the dwell are answered,
+// or the refusal with its line.
 pub fn read_numbers(
     text: &[u8],
     lanes: &mut [u16],
     closed: &mut [u16],
     moves: &mut [u16],
     order: &mut [u16],
-) -> Read
+) -> Result<Job, Refusal>
     ensures { ReadInto text.now
         lanes.old
         closed.old
@@ -104,14 +88,14 @@ pub fn read_numbers(
         (said_read result) }
 {
     if too_short(lanes.len(), closed.len(), moves.len(), order.len()) {
-        return Read::Refused(Refusal::new(Fault::ShortTable, 0));
+        return Err(Refusal::new(Fault::ShortTable, 0));
     }
     let answer = read_text(text, lanes, closed, moves, order);
-    if let Read::Refused(_) = answer {
-        zero_first(lanes, Job::LANE_NUMBERS);
-        zero_first(closed, Job::NODES);
-        zero_first(moves, Job::MOVE_NUMBERS);
-        zero_first(order, Job::CARRIERS);
+    if let Err(_) = answer {
+        fill_first(lanes, Job::LANE_NUMBERS, 0);
+        fill_first(closed, Job::NODES, 0);
+        fill_first(moves, Job::MOVE_NUMBERS, 0);
+        fill_first(order, Job::CARRIERS, 0);
     }
     answer
 }

@@ -1,30 +1,28 @@
 // The lines of a section's entries (rules 7.8 to 7.12), whose numbers go into a lent table one after the
 // other. An entry is stored first and then checked where it stands, by the checks of crate network. The first
 // faulty line ends the reading; its line is the cursor's.
-ghost use Rattle.std.specs.Prelude.{◌≡◌, suc, ◌*◌, ◌≤◌, length};
+ghost use Rattle.std.specs.Prelude.{◌≡◌, suc, ◌*◌, ◌≤◌, length, Err};
 ghost use Rattle.reader.specs.Entries.{section_of, EntryStored, Begun, EntriesRead};
 
-use cursor::{Cursor, Numbered, Paired, Stepped};
-use hall::{Checked, Fault, Job, Refusal};
+use cursor::Cursor;
+use hall::{Fault, Job, Refusal};
 use network::entries::{Entries, check_one};
 
-// How far the text is read behind a section: the counts so far, the dwell among them, and where the next line
-// begins; or the text is refused.
-#[derive(Drop)]
-pub enum Progress {
-    On(Job, Cursor),
-    Refused(Refusal),
-}
-
 // The text is refused at the line where the cursor stands.
-pub(crate) fn refused(fault: Fault, here: Cursor) -> Progress
-    ensures { result ≡ Progress.Refused (record { fault = fault; place = here.line }) }
+pub(crate) fn refused(fault: Fault, here: Cursor) -> Result<(Job, Cursor), Refusal>
+    ensures { result ≡ Err (record { fault = fault; place = here.line }) }
 {
-    Progress::Refused(Refusal::new(fault, here.line))
+    Err(Refusal::new(fault, here.line))
 }
 
 // The numbers of entry k, from its line into the table.
-fn store_entry(text: &[u8], here: Cursor, which: Entries, k: usize, table: &mut [u16]) -> Stepped
+fn store_entry(
+    text: &[u8],
+    here: Cursor,
+    which: Entries,
+    k: usize,
+    table: &mut [u16],
+) -> Option<Cursor>
     requires { (section_of which).size * suc k ≤ length table.old }
     ensures { EntryStored text.now (section_of which).size k here
         table.old
@@ -32,22 +30,18 @@ fn store_entry(text: &[u8], here: Cursor, which: Entries, k: usize, table: &mut 
         result }
 {
     match which {
-        Entries::Closed | Entries::Places => match here.one(text) {
-            Numbered::Got(a, next) => {
-                table[k] = a;
-                Stepped::On(next)
-            }
-            Numbered::Bad => Stepped::Bad,
-        },
-        Entries::Lanes | Entries::Moves => match here.pair(text) {
-            Paired::Got(a, b, next) => {
-                let at = 2 * k;
-                table[at] = a;
-                table[at + 1] = b;
-                Stepped::On(next)
-            }
-            Paired::Bad => Stepped::Bad,
-        },
+        Entries::Closed | Entries::Places => {
+            let (a, next) = here.one(text)?;
+            table[k] = a;
+            Some(next)
+        }
+        Entries::Lanes | Entries::Moves => {
+            let (a, b, next) = here.pair(text)?;
+            let at = 2 * k;
+            table[at] = a;
+            table[at + 1] = b;
+            Some(next)
+        }
     }
 }
 
@@ -61,7 +55,7 @@ pub(crate) fn entry_lines(
     closed: &[u16],
     count: usize,
     table: &mut [u16],
-) -> Progress
+) -> Result<(Job, Cursor), Refusal>
     requires { Begun text.now which job closed.now count from table.old }
     ensures { EntriesRead text.now which job closed.now count from
         table.old table.new result }
@@ -69,16 +63,16 @@ pub(crate) fn entry_lines(
     let mut here = from;
     let mut k: usize = 0;
     while k < count {
-        let Stepped::On(next) = store_entry(text, here, which, k, table) else {
+        let Some(next) = store_entry(text, here, which, k, table) else {
             return refused(Fault::Malformed, here);
         };
         let checked = check_one(which, job.nodes, job.carriers, closed, table, k);
-        if let Checked::Refused(r) = checked {
+        if let Err(r) = checked {
             let fault = r.fault;
             return refused(fault, here);
         }
         here = next;
         k += 1;
     }
-    Progress::On(job, here)
+    Ok((job, here))
 }

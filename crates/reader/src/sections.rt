@@ -8,10 +8,9 @@ ghost use Rattle.cursor.specs.Steps.{Counting};
 ghost use Rattle.reader.specs.Sections.{words, word_from, room_of, terms_in, with_count};
 ghost use Rattle.reader.specs.Sections.{Ready, SectionStep, EndStep};
 
-use crate::Read;
-use crate::lines::{Progress, entry_lines, refused};
-use cursor::{Cursor, Numbered};
-use hall::zero::zero_first;
+use crate::lines::{entry_lines, refused};
+use cursor::Cursor;
+use hall::zero::fill_first;
 use hall::{Fault, Job, Refusal};
 use network::entries::Entries;
 
@@ -84,7 +83,7 @@ impl Terms {
 
 // The line of a section's word and its count. A function cannot hand out a byte string, so the words stand
 // here one behind the other, and a section has the letters from `from` to `to`.
-fn counted(text: &[u8], here: Cursor, from: usize, to: usize) -> Numbered
+fn counted(text: &[u8], here: Cursor, from: usize, to: usize) -> Option<(u16, Cursor)>
     requires { (from ≤ to) × (to ≤ length words) }
     ensures { Counting text.now (word_from from to) here result }
 {
@@ -139,21 +138,21 @@ fn with_count(which: Sections, count: usize, before: Job) -> Job
 // line there. A section without entries leaves the table that it is lent.
 pub(crate) fn section(
     text: &[u8],
-    progress: Progress,
+    progress: Result<(Job, Cursor), Refusal>,
     which: Sections,
     closed: &[u16],
     table: &mut [u16],
-) -> Progress
+) -> Result<(Job, Cursor), Refusal>
     requires { Ready text.now closed.now which progress × (room_of which ≤ length table.old) }
     ensures { SectionStep text.now closed.now which
         table.old table.new progress result }
 {
-    let Progress::On(before, here) = progress else {
+    let Ok((before, here)) = progress else {
         return progress;
     };
     let terms = terms_of(which, before.carriers);
-    zero_first(table, terms.room);
-    let Numbered::Got(number, next) = counted(text, here, terms.from, terms.to) else {
+    fill_first(table, terms.room, 0);
+    let Some((number, next)) = counted(text, here, terms.from, terms.to) else {
         if terms.optional {
             return progress;
         }
@@ -168,24 +167,24 @@ pub(crate) fn section(
     }
     let job = with_count(which, count, before);
     let Sections::Listed(entries) = which else {
-        return Progress::On(job, next);
+        return Ok((job, next));
     };
     let shut = before.closed;
     entry_lines(text, next, entries, job, &closed[..shut], count, table)
 }
 
 // The end of the text: no byte may be left.
-pub(crate) fn at_end(text: &[u8], progress: Progress) -> Read
+pub(crate) fn at_end(text: &[u8], progress: Result<(Job, Cursor), Refusal>) -> Result<Job, Refusal>
     ensures { EndStep text.now progress result }
 {
     match progress {
-        Progress::On(job, here) => {
+        Ok((job, here)) => {
             let at = here.at;
             if at < text.len() {
-                return Read::Refused(Refusal::new(Fault::Malformed, here.line));
+                return Err(Refusal::new(Fault::Malformed, here.line));
             }
-            Read::Job(job)
+            Ok(job)
         }
-        Progress::Refused(r) => Read::Refused(r),
+        Err(r) => Err(r),
     }
 }
