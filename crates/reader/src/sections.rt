@@ -154,7 +154,7 @@ pub(crate) fn section(
     fill_first(table, terms.room, 0);
     let Some((number, next)) = counted(text, here, terms.from, terms.to) else {
         if terms.optional {
-            return progress;
+            return Ok((before, here));
         }
         return refused(Fault::Malformed, here);
     };

@@ -4,14 +4,14 @@ use Rattle.reader.proofs.EntryKinds.{one_number, two_numbers}
 use Rattle.reader.proofs.EntryLines.{stored_one, stored_two}
 use Rattle.reader.proofs.lines.store_entry.Goals as goal
 
-pub returns-in-Got : goal.returns-in-Got
-returns-in-Got c =
+pub returns-in_ok-a-in-Closed : goal.returns-in_ok-a-in-Closed
+returns-in_ok-a-in-Closed c =
     let size = one_number c.args.which c.in-Closed.is in
     let room = rw size at c.requires in
-    rw size (stored_one _ _ _ _ _ _ c.in-Got.ensures (omega arith))
+    rw size (stored_one _ _ _ _ _ _ c.in_ok-a-in-Closed.ensures (omega arith))
 
-pub returns-in-Got-pair : goal.returns-in-Got-pair
-returns-in-Got-pair c =
+pub returns-in_ok-a-in-Lanes : goal.returns-in_ok-a-in-Lanes
+returns-in_ok-a-in-Lanes c =
     let size = two_numbers c.args.which c.in-Lanes.is in
     let room = rw size at c.requires in
-    rw size (stored_two _ _ _ _ _ _ _ c.in-Got-pair.ensures (omega arith))
+    rw size (stored_two _ _ _ _ _ _ _ c.in_ok-a-in-Lanes.ensures (omega arith))

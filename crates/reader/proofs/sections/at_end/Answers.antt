@@ -3,7 +3,7 @@ use Rattle.reader.proofs.TextEnd.{end_lacks, end_here}
 use Rattle.reader.proofs.sections.at_end.Goals as goal
 
 pub returns-then-at-text : goal.returns-then-at-text
-returns-then-at-text c = rw (c.in-On.is, c.new.ensures) (end_lacks _ c.in-On.job _ c.if-at-text.true)
+returns-then-at-text c = rw (c.in-Ok.is, c.new.ensures) (end_lacks _ c.in-Ok.job _ c.if-at-text.true)
 
 pub returns-else-at-text : goal.returns-else-at-text
-returns-else-at-text c = rw c.in-On.is (end_here _ _ c.in-On.here c.if-at-text.false)
+returns-else-at-text c = rw c.in-Ok.is (end_here _ _ c.in-Ok.here c.if-at-text.false)

@@ -5,42 +5,42 @@ use Rattle.reader.proofs.SectionSteps.{step_counted, entries_ready, step_entries
 use Rattle.reader.proofs.sections.section.Goals as goal
 
 pub counted-requires : goal.counted-requires
-counted-requires c = word_there c.args.which c.in-On.before.carriers _ c.terms_of-terms.ensures
+counted-requires c = word_there c.args.which c.in-Ok.before.carriers _ c.terms_of-terms.ensures
 
 pub returns-then-terms : goal.returns-then-terms
 returns-then-terms c =
-    step_missing _ _ _ _ _ _ c.in-On.is _ _ _ c.terms_of-terms.ensures c.zero_first.ensures c.requires.1 _
+    step_missing _ _ _ _ _ _ c.in-Ok.is _ _ _ c.terms_of-terms.ensures c.fill_first.ensures c.requires.1 _
     c.counted.ensures c.in_default-counted.is c.if-terms.true
 
 pub returns-in_default-counted : goal.returns-in_default-counted
 returns-in_default-counted c =
-    step_lacks _ _ _ _ _ _ c.in-On.is _ _ _ c.terms_of-terms.ensures c.zero_first.ensures c.requires.1 _
+    step_lacks _ _ _ _ _ _ c.in-Ok.is _ _ _ c.terms_of-terms.ensures c.fill_first.ensures c.requires.1 _
     c.counted.ensures c.in_default-counted.is c.if-terms.false _ c.refused.ensures
 
 pub returns-then-count-terms : goal.returns-then-count-terms
 returns-then-count-terms c =
-    step_below _ _ _ _ _ _ c.in-On.is _ _ _ c.terms_of-terms.ensures c.zero_first.ensures c.requires.1 _
-    c.counted.ensures _ _ c.in-Got.is _ c.refused-then-count-terms.ensures c.if-count-terms.true
+    step_below _ _ _ _ _ _ c.in-Ok.is _ _ _ c.terms_of-terms.ensures c.fill_first.ensures c.requires.1 _
+    c.counted.ensures _ _ c.in-Some.is _ c.refused-then-count-terms.ensures c.if-count-terms.true
 
 pub returns-then-terms-count : goal.returns-then-terms-count
 returns-then-terms-count c =
-    step_above _ _ _ _ _ _ c.in-On.is _ _ _ c.terms_of-terms.ensures c.zero_first.ensures c.requires.1 _
-    c.counted.ensures _ _ c.in-Got.is _ c.refused-then-terms-count.ensures c.if-terms-count.true
+    step_above _ _ _ _ _ _ c.in-Ok.is _ _ _ c.terms_of-terms.ensures c.fill_first.ensures c.requires.1 _
+    c.counted.ensures _ _ c.in-Some.is _ c.refused-then-terms-count.ensures c.if-terms-count.true
 
 pub returns-in_default-which : goal.returns-in_default-which
 returns-in_default-which c =
-    step_counted _ _ _ _ _ _ c.in-On.is _ _ _ c.terms_of-terms.ensures c.zero_first.ensures c.requires.1 _
-    c.counted.ensures _ _ c.in-Got.is c.if-count-terms.false c.if-terms-count.false _ c.with_count-job.ensures
+    step_counted _ _ _ _ _ _ c.in-Ok.is _ _ _ c.terms_of-terms.ensures c.fill_first.ensures c.requires.1 _
+    c.counted.ensures _ _ c.in-Some.is c.if-count-terms.false c.if-terms-count.false _ c.with_count-job.ensures
     c.in_default-which.not-Listed
 
 pub entry_lines-requires : goal.entry_lines-requires
 entry_lines-requires c =
-    entries_ready _ _ _ _ _ _ c.in-On.is _ _ _ c.terms_of-terms.ensures c.zero_first.ensures c.requires.1 _
-    c.counted.ensures _ _ c.in-Got.is c.if-count-terms.false c.if-terms-count.false _ c.with_count-job.ensures
-    _ c.in-Listed.is c.requires.0 c.zero_first.auto.table
+    entries_ready _ _ _ _ _ _ c.in-Ok.is _ _ _ c.terms_of-terms.ensures c.fill_first.ensures c.requires.1 _
+    c.counted.ensures _ _ c.in-Some.is c.if-count-terms.false c.if-terms-count.false _ c.with_count-job.ensures
+    _ c.in-Listed.is c.requires.0 c.fill_first.auto.list
 
 pub returns : goal.returns
 returns c =
-    step_entries _ _ _ _ _ _ c.in-On.is _ _ _ c.terms_of-terms.ensures c.zero_first.ensures c.requires.1 _
-    c.counted.ensures _ _ c.in-Got.is c.if-count-terms.false c.if-terms-count.false _ c.with_count-job.ensures
+    step_entries _ _ _ _ _ _ c.in-Ok.is _ _ _ c.terms_of-terms.ensures c.fill_first.ensures c.requires.1 _
+    c.counted.ensures _ _ c.in-Some.is c.if-count-terms.false c.if-terms-count.false _ c.with_count-job.ensures
     _ c.in-Listed.is c.requires.0 _ c.entry_lines.auto.table _ c.entry_lines.ensures
