@@ -1,25 +1,22 @@
 -- One more record is two more stores (`Lists.antt`'s `load_step`): each of the records below the count is
 -- there, with two numbers. When the loop ends all that have room are loaded (`load_all`).
-use Rattle.std.proofs.Common.{ℕ, List, ◌≡◌, ◌≤◌, ◌<◌, ◌+◌, ◌*◌, ◌/◌, ◌∙◌, ap, min, set, length, arith}
+use Rattle.std.proofs.Common.{ℕ, ◌≡◌, ◌<◌, ◌/◌, ◌∙◌, ap, min, length, arith, get_or-take, length-take}
 use Rattle.std.proofs.Math.Numerals.{add-one}
-use Rattle.records.specs.declared.Record.{Record}
-use Rattle.records.specs.Table.{moved, record_at}
+use Rattle.records.specs.Table.{blank}
 use Rattle.records.proofs.Lists.{load_to, load_step, load_all}
 use Rattle.records.proofs.load_moves.Goals as goal
 
-loaded_more : (i n : ℕ) (rs : List Record) (ms ns : List ℕ) → n ≡ min (length rs) (length ms / 2) → i < n
-    → ns ≡ load_to i rs ms
-    → set (set ns (2 * i) (record_at rs i).start) (2 * i + 1) (record_at rs i).goal ≡ load_to (i + 1) rs ms
-loaded_more i n rs ms ns e l h = rw (h, add-one i) (load_step i rs ms (omega arith) (omega arith))
-
-loaded : (i n : ℕ) (rs : List Record) (ms ns : List ℕ) → n ≡ min (length rs) (length ms / 2) → i ≤ n → n ≤ i
-    → ns ≡ load_to i rs ms → ns ≡ moved rs ms
-loaded i n rs ms ns e l g h =
-    let is : i ≡ min (length rs) (length ms / 2) = omega arith in
-    h ∙ ap (λ (k : ℕ). load_to k rs ms) is ∙ load_all rs ms
-
 pub loop-i-preserved : goal.loop-i-preserved
-loop-i-preserved c = (omega arith, loaded_more _ _ _ _ _ c.pairs_in-n.ensures c.loop-i-test.true c.loop-i.invariant.1)
+loop-i-preserved c =
+    let rs = c.args.records.now in
+    let n = c.min-n.result in
+    let below : c.loop-i.i < n = omega (arith, length-take n rs) in
+    rw (c.loop-i.invariant, get_or-take n rs c.loop-i.i blank below, add-one c.loop-i.i)
+    (load_step c.loop-i.i rs c.args.moves.now (omega arith) (omega arith))
 
 pub returns : goal.returns
-returns c = loaded _ _ _ _ _ c.pairs_in-n.ensures c.loop-i.invariant.0 c.loop-i-test.false c.loop-i.invariant.1
+returns c =
+    let rs = c.args.records.now in
+    let ms = c.args.moves.now in
+    let all : c.loop-i.i ≡ min (length rs) (length ms / 2) = omega (arith, length-take c.min-n.result rs) in
+    c.loop-i.invariant ∙ ap (λ (k : ℕ). load_to k rs ms) all ∙ load_all rs ms
