@@ -12,6 +12,7 @@ use Prim.Native.Nat.{ℕ, zero, suc, ◌+◌, ◌≤◌, ◌<◌}
 use native.Mathlib.Decide.{dec_lt}
 use native.Mathlib.Omega.{arith}
 use lib.ListN.{length, get_or}
+use Rattle.std.proofs.Common.{Result, Ok, Err}
 use Rattle.hall.specs.declared.Refusal.{Refusal}
 use Rattle.hall.specs.Limits.{carrier_limit, table_length}
 use Rattle.hall.specs.Floor.{lanes_in}
@@ -22,8 +23,6 @@ use Rattle.hall.specs.Questions.{checks_question, job_question}
 use Rattle.hall.specs.Plan.{tables_in}
 use Rattle.hall.specs.Ticks.{own}
 use Rattle.hall.proofs.Sound.{carriers_limit, only_eight}
-use Rattle.planner.specs.declared.Planned.{Planned}
-use Rattle.planner.specs.declared.Planned.TheVariants.{Cost, Refused}
 use Rattle.planner.specs.Planning.{said_planned, Lent, table_is_short, short_distances, short_ticks, ShortOf}
 use Rattle.planner.specs.Planning.{NumbersPlanned, NumbersRefused, Planning}
 use Rattle.planner.proofs.Faults.{none_of_job, job_first}
@@ -119,12 +118,12 @@ module _ {j : Numbers} {before after : Lent} (sound : None (checks_question j)) 
 
 -- ---- what a planned answer is
 
-module _ {j : Numbers} {before after : Lent} {r : Planned} where
-  pub planned_accepted : {cost : ℕ} → r ≡ Cost cost →
+module _ {j : Numbers} {before after : Lent} {r : Result ℕ Refusal} where
+  pub planned_accepted : {cost : ℕ} → r ≡ Ok cost →
       Planning j before after (said_planned r) → NumbersPlanned j before after cost
   planned_accepted e p = rw e at p
 
-  pub planned_refused : {refusal : Refusal} → r ≡ Refused refusal →
+  pub planned_refused : {refusal : Refusal} → r ≡ Err refusal →
       Planning j before after (said_planned r) →
       NumbersRefused j before after (number_of refusal.fault) refusal.place
   planned_refused e p = rw e at p

@@ -14,6 +14,7 @@ use mathlib.Core.List.{List}
 use Prim.Native.Nat.{ℕ, ◌*◌, ◌≤◌}
 use native.Mathlib.Omega.{arith}
 use lib.ListN.{length, take}
+use Rattle.std.proofs.Common.{Result, Ok, Err}
 use Rattle.hall.specs.declared.Job.{Job}
 use Rattle.hall.specs.declared.Refusal.{Refusal}
 use Rattle.hall.specs.Limits.{node_limit, lane_limit, carrier_limit, lane_numbers, move_numbers}
@@ -27,7 +28,6 @@ use Rattle.form.specs.Texts.{Refused}
 use Rattle.form.specs.JobText.{job_text}
 use Rattle.form.specs.Jobs.{WrittenJob}
 use Rattle.form.proofs.WrittenJobs.{lanes_paired, lanes_few, closed_few}
-use Rattle.reader.specs.declared.Read.{Read}
 use Rattle.reader.specs.Reading.{said_read, counts_of, AnyShort, AcceptedAs, RefusedWith, ReadInto}
 use Rattle.reader.proofs.Exactly.{by_form}
 use Rattle.report.specs.Printing.{RefusedPrinting}
@@ -90,13 +90,13 @@ tables_long lanes closed moves order a b c d (inr (inr (inl h))) = omega arith
 tables_long lanes closed moves order a b c d (inr (inr (inr h))) = omega arith
 
 module _ (text lanes closed moves order : List ℕ) where
-  pub job_back : {r : Read} {counts : Job} {l s m o : List ℕ} → r ≡ Read.Job counts →
+  pub job_back : {r : Result Job Refusal} {counts : Job} {l s m o : List ℕ} → r ≡ Ok counts →
       ReadInto text lanes closed moves order l s m o (said_read r) → ReadBack text l s m o counts
   job_back is read = accepted_back (rw is at read)
 
-  pub refusal_back : {r : Read} {given : Refusal} (l s m o : List ℕ) →
+  pub refusal_back : {r : Result Job Refusal} {given : Refusal} (l s m o : List ℕ) →
       lane_numbers ≤ length lanes → node_limit ≤ length closed → move_numbers ≤ length moves →
-      carrier_limit ≤ length order → r ≡ Read.Refused given →
+      carrier_limit ≤ length order → r ≡ Err given →
       ReadInto text lanes closed moves order l s m o (said_read r) →
       Refused job_text text (number_of given.fault) given.place
   refusal_back {r} {given} l s m o a b c d is read =

@@ -7,17 +7,16 @@
 #![tactic(auto)]
 
 ghost use Rattle.std.specs.Prelude.{◌≡◌};
-ghost use Rattle.hall.specs.Floor.{network_of};
-ghost use Rattle.hall.specs.Job.{job_of};
+ghost use Rattle.hall.specs.Job.{job_in};
 ghost use Rattle.hall.specs.Stages.{None};
 ghost use Rattle.hall.specs.Questions.{checks_question};
 ghost use Rattle.form.specs.Jobs.{closed_lines};
 ghost use Rattle.report.specs.Answer.{JobAnswer, AnswerText, Answering};
 
 use crate::print::{print_plan, print_refused};
-use hall::Job;
-use planner::{Planned, plan_moves};
-use reader::{Read, read_numbers};
+use hall::{Job, JobNumbers, Network};
+use planner::plan_moves;
+use reader::read_numbers;
 
 pub mod print;
 
@@ -35,47 +34,18 @@ fn closed_lines(closed: &[u16]) -> usize
 // The answer for a job without a fault of its listed checks. Carrier 0 stands on the line behind NODES,
 // LANES, the lanes, the section of the closed nodes and CARRIERS (rule 7.10); form's `carrier_line_lem` says
 // that this is the line that the sections above a carrier give it.
-fn answer_job(
-    nodes: usize,
-    lanes: &[u16],
-    closed: &[u16],
-    moves: &[u16],
-    order: &[u16],
-    dwell: usize,
-    out: &mut [u8],
-) -> usize
-    requires { None (checks_question
-        (job_of (network_of nodes lanes.now closed.now) moves.now order.now dwell)) }
-    ensures { Answering
-        (JobAnswer (job_of (network_of nodes lanes.now closed.now)
-        moves.now order.now dwell))
-        out.old out.new
-        result }
+fn answer_job(job: &JobNumbers, out: &mut [u8]) -> usize
+    requires { None (checks_question (job_in job.now)) }
+    ensures { Answering (JobAnswer (job_in job.now)) out.old out.new result }
 {
     let mut table = [0u16; Job::TABLE];
     let mut distances = [0u16; Job::CARRIERS];
     let mut ticks = [0u32; Job::CARRIERS];
-    let carriers = moves.len() / 2;
-    let first = 4 + lanes.len() / 2 + closed_lines(closed);
-    let planned = plan_moves(
-        nodes,
-        lanes,
-        closed,
-        moves,
-        order,
-        dwell,
-        &mut table,
-        &mut distances,
-        &mut ticks,
-    );
-    match planned {
-        Planned::Cost(cost) => print_plan(carriers, &distances, &ticks, cost, out),
-        Planned::Refused(refusal) => {
-            let fault = refusal.fault;
-            let place = refusal.place;
-            let line = first + place;
-            print_refused(fault.number(), line, out)
-        }
+    let carriers = job.moves.len() / 2;
+    let first = 4 + job.network.lanes.len() / 2 + closed_lines(job.network.closed);
+    match plan_moves(job, &mut table, &mut distances, &mut ticks) {
+        Ok(cost) => print_plan(carriers, &distances, &ticks, cost, out),
+        Err(refusal) => print_refused(refusal.fault.number(), first + refusal.place, out),
     }
 }
 
@@ -90,29 +60,20 @@ pub fn answer(text: &[u8], out: &mut [u8]) -> usize
     let mut closed = [0u16; Job::NODES];
     let mut moves = [0u16; Job::MOVE_NUMBERS];
     let mut order = [0u16; Job::CARRIERS];
-    let read = read_numbers(text, &mut lanes, &mut closed, &mut moves, &mut order);
-    match read {
-        Read::Job(counts) => {
-            let nodes = counts.nodes;
-            let numbers = 2 * counts.lanes;
-            let shut = counts.closed;
-            let places = counts.carriers;
-            let dwell = counts.dwell;
-            let ends = 2 * places;
-            answer_job(
-                nodes,
-                &lanes[..numbers],
-                &closed[..shut],
-                &moves[..ends],
-                &order[..places],
-                dwell,
-                out,
-            )
+    match read_numbers(text, &mut lanes, &mut closed, &mut moves, &mut order) {
+        Ok(counts) => {
+            let job = JobNumbers {
+                network: Network {
+                    nodes: counts.nodes,
+                    lanes: &lanes[..2 * counts.lanes],
+                    closed: &closed[..counts.closed],
+                },
+                moves: &moves[..2 * counts.carriers],
+                order: &order[..counts.carriers],
+                dwell: counts.dwell,
+            };
+            answer_job(&job, out)
         }
-        Read::Refused(refusal) => {
-            let fault = refusal.fault;
-            let line = refusal.place;
-            print_refused(fault.number(), line, out)
-        }
+        Err(refusal) => print_refused(refusal.fault.number(), refusal.place, out),
     }
 }

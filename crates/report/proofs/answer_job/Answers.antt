@@ -6,24 +6,24 @@ use Rattle.report.proofs.JobAnswers.{closed_lines_few, refused_carrier, refusal_
 use Rattle.report.proofs.JobAnswers.{planned_accepted, planned_refused}
 use Rattle.report.proofs.answer_job.Goals as goal
 
-pub overflow_add-line : goal.overflow_add-line
-overflow_add-line c =
-    let refuses = planned_refused c.in-Refused.is c.plan_moves-planned.ensures in
+pub overflow_add-first-in-Err : goal.overflow_add-first-in-Err
+overflow_add-first-in-Err c =
+    let refuses = planned_refused c.in-Err.is c.plan_moves.ensures in
     let few = refused_carrier c.requires
     (record { table = search rules; distances = search rules; ticks = search rules }) refuses in
-    let lines = closed_lines_few c.args.closed.now in
+    let lines = closed_lines_few c.args.job.now.network.closed.now in
     omega (arith, few, lines)
 
-pub returns-in-Cost : goal.returns-in-Cost
-returns-in-Cost c =
-    let accepted = planned_accepted c.in-Cost.is c.plan_moves-planned.ensures in
+pub returns-in-Ok : goal.returns-in-Ok
+returns-in-Ok c =
+    let accepted = planned_accepted c.in-Ok.is c.plan_moves.ensures in
     cost_answers c.requires
     (record { table = search rules; distances = search rules; ticks = search rules })
     accepted c.print_plan.ensures
 
-pub returns-in-Refused : goal.returns-in-Refused
-returns-in-Refused c =
-    let refuses = planned_refused c.in-Refused.is c.plan_moves-planned.ensures in
+pub returns-in-Err : goal.returns-in-Err
+returns-in-Err c =
+    let refuses = planned_refused c.in-Err.is c.plan_moves.ensures in
     refusal_answers c.requires
     (record { table = search rules; distances = search rules; ticks = search rules })
     refuses
