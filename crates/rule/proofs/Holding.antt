@@ -12,7 +12,7 @@ use lib.Seq.{get_or-set_same, get_or-set_other}
 use Rattle.hall.specs.Rule.{Pair}
 use Rattle.rule.specs.declared.Held.{Held}
 use Rattle.rule.specs.Held.{pair_in, nobody, held_as, held_at, held_tick, held_pair, held_with, Holding}
-use Rattle.rule.proofs.Carry.{held_tick_is, held_pair_is}
+use Rattle.rule.proofs.Carry.{held_tick_is}
 
 -- ---- lists that agree at a place
 

@@ -15,7 +15,7 @@ use Rattle.hall.specs.Ticks.{SmallestFrom, PermittedBy}
 use Rattle.rule.specs.declared.Held.{Held}
 use Rattle.rule.specs.Held.{held_pair, held_tick}
 use Rattle.rule.specs.Reach.{latest_tick, TickReached, PermittedByHeld, PassedOne, RoundMade}
-use Rattle.rule.proofs.Stretch.{Free, free_bound, free_onward}
+use Rattle.rule.proofs.Stretch.{Free, free_onward}
 
 pub reached_here : (t : ℕ) (Permits : ℕ → Type 0) → TickReached t Permits t
 reached_here t Permits = record { not_before = le_refl t; none_before = λ y h p. h }
@@ -96,15 +96,14 @@ module _ (w : ℕ) (held : List Held) (from : ℕ) where
         let e : tick ≡ x = omega (arith, one.not_before) in
         subst (PassedOne w held from) e (s.passed (omega arith))
 
-    pub round_on : held_tick held place + (held_pair held place).ii + w < latest_tick
-        → RoundTo w held from (place + 1) x
-    round_on goal = record {
+    pub round_on : x ≤ latest_tick → RoundTo w held from (place + 1) x
+    round_on within = record {
       reached =
           reached_further s.reached
           (reached_by_one w (length held) (held_pair held) (held_tick held) place inside one);
       still = still_on;
       passed = λ h. passed_on h (dec_lt tick x);
-      within = free_bound w (held_pair held place) (held_tick held place) latest_tick one s.within goal;
+      within = within;
     }
 
   pub round_ends : {place tick : ℕ}

@@ -11,7 +11,7 @@
 #![tactic(auto)]
 
 ghost use Rattle.std.specs.Prelude.{◌≤◌, pos, ◌-ℤ◌, length};
-ghost use Rattle.hall.specs.Rule.{Forbidden, Permitted, Answers};
+ghost use Rattle.hall.specs.Rule.{Forbidden, Permitted, Excepted⁺, Answers};
 ghost use Rattle.hall.specs.Ticks.{SmallestFrom, PermittedBy};
 ghost use Rattle.rule.specs.Held.{pair_in, held_pair, held_tick, Holding};
 ghost use Rattle.rule.specs.Reach.{latest_tick, RoundMade};
@@ -39,9 +39,22 @@ pub struct Held {
     pub pair: Pair,
 }
 
+// Whether the exception holds where i starts at ti and j at tj, with additions only (rule 4.8).
+fn excepted(pair: Pair, ti: u32, tj: u64) -> bool
+    requires { tj ≤ latest_tick }
+    ensures { Answers result (Excepted⁺ (pair_in pair) ti tj) }
+{
+    let starts_goals = pair.ss as u64 + pair.gg as u64;
+    let owns = pair.ii as u64 + pair.jj as u64;
+    let at_low = ti as u64 + pair.ij as u64 == tj + pair.jj as u64;
+    let at_high = tj + pair.ji as u64 == ti as u64 + pair.ii as u64;
+    let parity = (ti as u64 + tj + pair.ss as u64) % 2;
+    starts_goals == owns && (at_low || at_high) && parity == 1
+}
+
 // Whether the rule forbids that i starts at ti and j at tj, with additions only. All sums are made before the
 // tests; the mark for "no walk" between the starts is tested first, and then none of them decides (rule 4.5).
-// The exception is looked at without dwell only (rule 4.8).
+// The exception is looked at without dwell only.
 fn forbidden(pair: Pair, dwell: u32, ti: u32, tj: u64) -> bool
     requires { tj ≤ latest_tick }
     ensures { Answers result (Forbidden dwell (pair_in pair) (pos tj -ℤ pos ti)) }
@@ -52,35 +65,10 @@ fn forbidden(pair: Pair, dwell: u32, ti: u32, tj: u64) -> bool
     let low_end = tj + pair.jj as u64 + dwell as u64;
     let high = tj + pair.ji as u64;
     let high_end = ti as u64 + pair.ii as u64 + dwell as u64;
-    let parity = (ti as u64 + tj + pair.ss as u64) % 2;
-    if pair.ss == Job::NO_WALK as u32 {
+    if pair.ss == Job::NO_WALK as u32 || starts_goals > owns || low > low_end || high > high_end {
         return false;
     }
-    if starts_goals > owns {
-        return false;
-    }
-    if low > low_end {
-        return false;
-    }
-    if high > high_end {
-        return false;
-    }
-    if dwell > 0 {
-        return true;
-    }
-    if starts_goals < owns {
-        return true;
-    }
-    if parity == 0 {
-        return true;
-    }
-    if low == low_end {
-        return false;
-    }
-    if high == high_end {
-        return false;
-    }
-    true
+    dwell > 0 || !excepted(pair, ti, tj)
 }
 
 // Whether the rule forbids that i starts at tick ti and j at tick tj, where carriers have that dwell.
@@ -100,27 +88,15 @@ fn free_from(held: Held, dwell: u32, from: u64) -> u64
         result }
     ensures within { result ≤ latest_tick }
 {
-    let pair = held.pair;
-    let ti = held.tick;
-    let starts_goals = pair.ss as u64 + pair.gg as u64;
-    let owns = pair.ii as u64 + pair.jj as u64;
-    let high_end = ti as u64 + pair.ii as u64 + dwell as u64;
-    if !forbidden(pair, dwell, ti, from) {
+    let Held { tick, pair } = held;
+    if !forbidden(pair, dwell, tick, from) {
         return from;
     }
-    let last = high_end - pair.ji as u64;
-    let end_parity = (ti as u64 + last + pair.ss as u64) % 2;
-    let after = last + 1;
-    if dwell > 0 {
-        return after;
+    let last = tick as u64 + pair.ii as u64 + dwell as u64 - pair.ji as u64;
+    if dwell == 0 && excepted(pair, tick, last) {
+        return last;
     }
-    if starts_goals < owns {
-        return after;
-    }
-    if end_parity == 0 {
-        return after;
-    }
-    last
+    last + 1
 }
 
 // One round of the held carriers: each moves the tick on to the first that it permits.

@@ -1,6 +1,6 @@
 -- When a round moves nothing, all held carriers permit the tick. Each other round leaves the stretch of a carrier
 -- behind, so the number of carriers whose stretch ends after the tick falls (`Work`).
-use Rattle.std.proofs.Common.{arith, ◌/◌, length}
+use Rattle.std.proofs.Common.{arith, length}
 use Rattle.rule.specs.Reach.{PermittedByHeld}
 use Rattle.rule.proofs.Reach.{reached_here, reached_further, round_smallest}
 use Rattle.rule.proofs.Work.{ahead_falls}
@@ -9,7 +9,7 @@ use Rattle.rule.proofs.first_tick.Goals as goal
 pub loop-tick-init : goal.loop-tick-init
 loop-tick-init c =
     let held = c.args.held.now in
-    (reached_here c.args.from (PermittedByHeld c.args.dwell held (length held / 7)), c.round-next.ensures)
+    (reached_here c.args.from (PermittedByHeld c.args.dwell held (length held)), c.round-next.ensures)
 
 pub round-next-requires-in-loop-tick : goal.round-next-requires-in-loop-tick
 round-next-requires-in-loop-tick c = c.loop-tick.invariant.1.within

@@ -1,78 +1,46 @@
--- The signed rule is the rule with additions only (`forbidden_iff`), and the tests are the parts of the latter, one
--- after the other: a test that fails excludes the part, and where the last ones are reached all parts hold but the
--- exception. With a dwell there is none; without, with the gap at 0 and the parity odd, it holds exactly at the two
--- ends (rule 4.8).
-use Rattle.std.proofs.Common.{arith, pos, ◌-ℤ◌, ◌↔◌, inl, inr}
-use Rattle.hall.specs.Rule.{Pair, pair6, Forbidden, Forbidden⁺}
+-- The signed rule is the rule with additions only (`forbidden_iff`), and the first four tests are its parts: one that
+-- fails excludes it. Where they all pass, the rule forbids but for the exception, which there is without dwell only.
+use Rattle.std.proofs.Common.{arith, rules, pos, ◌-ℤ◌, ◌≡◌, Bool, true, false, not}
+use Rattle.hall.specs.Rule.{Forbidden, Excepted⁺, Answers}
 use Rattle.hall.proofs.Rules.{forbidden_iff}
+use Rattle.rule.specs.Held.{pair_in}
 use Rattle.rule.proofs.forbidden.Goals as goal
-use Rattle.rule.proofs.forbidden.Goals.{Else-ss}
+use Rattle.rule.proofs.forbidden.Goals.{then-pair-via-then-pair, then-pair-via-else-pair+then-starts_goals-owns, then-pair-via-else-pair+else-starts_goals-owns+then-low-low_end, then-pair-via-else-pair+else-starts_goals-owns+else-low-low_end+then-high-high_end, Else-high-high_end}
 
--- the pair of the six arguments
-abbrev pair : Else-ss → Pair
-pair c = let a = c.args in pair6 a.ss a.gg a.ii a.jj a.ij a.ji
+pub returns-then-pair : goal.returns-then-pair
+returns-then-pair c = λ f.
+    let g = (forbidden_iff c.args.dwell (pair_in c.args.pair) c.args.ti c.args.tj).0 f in
+    elim c.then-pair.branch [
+      | then-pair-via-then-pair w ↦ omega arith
+      | then-pair-via-else-pair+then-starts_goals-owns w ↦ omega arith
+      | then-pair-via-else-pair+else-starts_goals-owns+then-low-low_end w ↦ omega arith
+      | then-pair-via-else-pair+else-starts_goals-owns+else-low-low_end+then-high-high_end w ↦ omega arith
+    ]
 
--- the two forms of the rule at the arguments
-same : (c : Else-ss)
-    → Forbidden c.args.dwell (pair c) (pos c.args.tj -ℤ pos c.args.ti)
-    ↔ Forbidden⁺ c.args.dwell (pair c) c.args.ti c.args.tj
-same c = forbidden_iff c.args.dwell (pair c) c.args.ti c.args.tj
+-- past the four tests, the rule forbids where the exception does not hold
+but_excepted : (c : Else-high-high_end) → (c.args.dwell ≡ 0 → ¬ Excepted⁺ (pair_in c.args.pair) c.args.ti c.args.tj)
+    → Forbidden c.args.dwell (pair_in c.args.pair) (pos c.args.tj -ℤ pos c.args.ti)
+but_excepted c none = (forbidden_iff c.args.dwell (pair_in c.args.pair) c.args.ti c.args.tj).1
+    (record {
+      joined = omega arith;
+      gap_not_above = omega arith;
+      low = omega arith;
+      high = omega arith;
+      not_excepted = none;
+    })
 
-pub returns-then-starts_goals-owns : goal.returns-then-starts_goals-owns
-returns-then-starts_goals-owns c = λ f. let g = (same (goal.at.returns-then-starts_goals-owns c).Else-ss).0 f in omega arith
-
-pub returns-then-low-low_end : goal.returns-then-low-low_end
-returns-then-low-low_end c = λ f. let g = (same (goal.at.returns-then-low-low_end c).Else-ss).0 f in omega arith
-
-pub returns-then-high-high_end : goal.returns-then-high-high_end
-returns-then-high-high_end c = λ f. let g = (same (goal.at.returns-then-high-high_end c).Else-ss).0 f in omega arith
+-- an answer turned round
+turned : (r : Bool) {A B : Type 0} → Answers r A → (¬ A → B) → (A → ¬ B) → Answers (not r) B
+turned true a f g = g a
+turned false a f g = f a
 
 pub returns-then-dwell-gt0 : goal.returns-then-dwell-gt0
-returns-then-dwell-gt0 c = (same (goal.at.returns-then-dwell-gt0 c).Else-ss).1
-    (record {
-      joined = omega arith;
-      gap_not_above = omega arith;
-      low = omega arith;
-      high = omega arith;
-      not_excepted = λ z x. omega arith;
-    })
+returns-then-dwell-gt0 c =
+    let f = but_excepted (goal.at.returns-then-dwell-gt0 c).Else-high-high_end (λ z. omega arith) in search rules
 
-pub returns-then-starts_goals-owns-2 : goal.returns-then-starts_goals-owns-2
-returns-then-starts_goals-owns-2 c = (same (goal.at.returns-then-starts_goals-owns-2 c).Else-ss).1
-    (record {
-      joined = omega arith;
-      gap_not_above = omega arith;
-      low = omega arith;
-      high = omega arith;
-      not_excepted = λ z x. omega arith;
-    })
-
-pub returns-then-parity-eq0 : goal.returns-then-parity-eq0
-returns-then-parity-eq0 c = (same (goal.at.returns-then-parity-eq0 c).Else-ss).1
-    (record {
-      joined = omega arith;
-      gap_not_above = omega arith;
-      low = omega arith;
-      high = omega arith;
-      not_excepted = λ z x. omega arith;
-    })
-
-pub returns-then-low-low_end-2 : goal.returns-then-low-low_end-2
-returns-then-low-low_end-2 c = λ f. let g = (same (goal.at.returns-then-low-low_end-2 c).Else-ss).0 f in
-    g.not_excepted (omega arith)
-    (record { gap_zero = omega arith; at_an_end = inl (omega arith); odd = omega arith })
-
-pub returns-then-high-high_end-2 : goal.returns-then-high-high_end-2
-returns-then-high-high_end-2 c = λ f. let g = (same (goal.at.returns-then-high-high_end-2 c).Else-ss).0 f in
-    g.not_excepted (omega arith)
-    (record { gap_zero = omega arith; at_an_end = inr (omega arith); odd = omega arith })
-
-pub returns : goal.returns
-returns c = (same (goal.at.returns c).Else-ss).1
-    (record {
-      joined = omega arith;
-      gap_not_above = omega arith;
-      low = omega arith;
-      high = omega arith;
-      not_excepted = λ z x. elim x.at_an_end [ inl h ↦ omega arith | inr h ↦ omega arith ];
-    })
+pub returns-else-dwell-gt0 : goal.returns-else-dwell-gt0
+returns-else-dwell-gt0 c =
+    turned c.excepted.result c.excepted.ensures
+    (λ n. but_excepted (goal.at.returns-else-dwell-gt0 c).Else-high-high_end (λ z. n))
+    (λ e f. let g = (forbidden_iff c.args.dwell (pair_in c.args.pair) c.args.ti c.args.tj).0 f in
+    g.not_excepted (omega arith) e)

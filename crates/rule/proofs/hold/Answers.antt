@@ -1,13 +1,8 @@
--- Seven stores one after the other are the run of stores that the contract names (`in_a_row`).
-use Rattle.std.proofs.Common.{arith}
-use Rattle.hall.specs.Rule.{pair6}
-use Rattle.rule.proofs.Held.{in_a_row}
+-- The list with the carrier stored at its place is the one that the contract names.
+use Rattle.std.proofs.Common.{arith, refl}
+use Rattle.rule.specs.Held.{held_with}
 use Rattle.rule.proofs.hold.Goals as goal
 
 pub returns : goal.returns
-returns c =
-    let a = c.args in
-    record {
-      served = omega arith;
-      written = in_a_row a.held.now a.place.0 a.tick (pair6 a.ss a.gg a.ii a.jj a.ij a.ji);
-    }
+unfolding held_with
+returns c = record { served = omega arith; written = refl }
