@@ -3,7 +3,6 @@
 -- those from the next on. Assumes nothing.
 --     made_length, made_at, made_all   the list of records that is made: its length, each of its records, and
 --                                      that it is the only such list
---     tell_puts                        four numbers, each written to the list that the one before left
 --     told_step, told_end              one record more is written; none is left
 --     told_length                      the numbers are as many as they were
 use mathlib.Core.Path.{◌≡◌, refl, sym, ap, ◌∙◌}
@@ -46,13 +45,6 @@ made_all fields records long each =
     (λ i h. let below : i < lendable = omega (arith, long) in each i below ∙ sym (made_at fields i below))
 
 -- ---- told
-
-pub tell_puts : (r : Record) (i : ℕ) (f f₁ f₂ f₃ f₄ : List ℕ)
-    → f₁ ≡ set f i r.start → f₂ ≡ set f₁ (i + lendable) r.goal
-    → f₃ ≡ set f₂ (i + 2 * lendable) r.distance → f₄ ≡ set f₃ (i + 3 * lendable) r.tick
-    → f₄ ≡ tell_to r i f
-unfolding tell_to
-tell_puts r i f f₁ f₂ f₃ f₄ e₁ e₂ e₃ e₄ = rw (e₄, e₃, e₂, e₁)
 
 pub told_step : (records : List Record) (i : ℕ) (f : List ℕ) → i < length records
     → told_from i (drop i records) f

@@ -27,30 +27,21 @@ const TICKS: usize = 3 * LENDABLE;
 pub fn within(count: usize) -> usize
     ensures { result ≡ min count lendable }
 {
-    if count < LENDABLE {
-        return count;
-    }
-    LENDABLE
+    count.min(LENDABLE)
 }
 
 // A number as a node or a distance: what is above 65,535 counts as 65,535.
 fn half(x: u32) -> u16
     ensures { result ≡ half_of x }
 {
-    if x < 65536 {
-        return x as u16;
-    }
-    65535
+    u16::try_from(x).unwrap_or(u16::MAX)
 }
 
 // The number at a place, 0 where the list has none.
 fn number_at(fields: &[u32], at: usize) -> u32
     ensures { result ≡ number_in fields.now at }
 {
-    if at < fields.len() {
-        return fields[at];
-    }
-    0
+    fields.get(at).copied().unwrap_or(0)
 }
 
 // The record of carrier i, a number from each column.
@@ -67,19 +58,13 @@ fn record_of(fields: &[u32], i: usize) -> Record
 }
 
 // The array of records that the columns give.
+#[tactic(auto, using(crate::proofs::Columns::made_all))]
 pub fn made(fields: &[u32]) -> [Record; LENDABLE]
     ensures { result ≡ made_of fields.now }
 {
-    let mut records = [Record {
-        start: 0,
-        goal: 0,
-        distance: 0,
-        tick: 0,
-    }; LENDABLE];
-    let mut i: usize = 0;
-    while i < LENDABLE {
-        records[i] = record_of(fields, i);
-        i += 1;
+    let mut records = [Record::default(); LENDABLE];
+    for (i, record) in records.iter_mut().enumerate() {
+        *record = record_of(fields, i);
     }
     records
 }
@@ -94,23 +79,23 @@ fn put(fields: &mut [u32], at: usize, number: u32)
 }
 
 // Writes a record to the columns.
+#[tactic(auto, unfolding(crate::specs::Columns::tell_to))]
 fn tell(r: Record, i: usize, fields: &mut [u32])
     requires { i < lendable }
     ensures { fields.new ≡ tell_to r i fields.old }
 {
-    put(fields, i, r.start as u32);
-    put(fields, i + GOALS, r.goal as u32);
-    put(fields, i + DISTANCES, r.distance as u32);
+    put(fields, i, u32::from(r.start));
+    put(fields, i + GOALS, u32::from(r.goal));
+    put(fields, i + DISTANCES, u32::from(r.distance));
     put(fields, i + TICKS, r.tick);
 }
 
 // Writes an array of records to the columns.
+#[tactic(auto, using(crate::proofs::Columns::told_step, crate::proofs::Columns::told_end))]
 pub fn told(records: [Record; LENDABLE], fields: &mut [u32])
     ensures { fields.new ≡ told_to records fields.old }
 {
-    let mut i: usize = 0;
-    while i < LENDABLE {
-        tell(records[i], i, fields);
-        i += 1;
+    for (i, record) in records.iter().enumerate() {
+        tell(*record, i, fields);
     }
 }
