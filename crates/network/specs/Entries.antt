@@ -8,9 +8,8 @@
 --     places_in    how many entries the list has: a lane and a move have two numbers, and an odd last number
 --                 is no entry
 --     each_in      these checks at each entry of the list, one stage
---     RefusedAt    the check of entry k refuses, and that of no entry before it does
---     FirstRefused    of so many checks, each of which has an answer at its place: every one is passed, or the
---                 answer is the refusal of the first that is not
+--     FirstRefused    what a loop answers over so many places, with a check at each that may give the answer
+--                 `Answer` has there: every place is passed, or it is the refusal of the first that is not
 use Rattle.std.specs.Prelude.{List, ℕ, ◌<◌, length, Result, Ok, Err}
 use Rattle.hall.specs.declared.Refusal.{Refusal}
 use Rattle.hall.specs.Floor.{lanes_in}
@@ -36,12 +35,7 @@ abbrev pub each_in : Entries → (nodes carriers : ℕ) (closed list : List ℕ)
 each_in which nodes carriers closed list =
     at_each (places_in which list) (checks_in which nodes carriers closed list)
 
-pub record RefusedAt (Answer : ℕ → Result Unit Refusal → Type 0) (count : ℕ) (r : Refusal) : Type 0 where
-  pub k : ℕ
-  pub inside : k < count
-  pub refused : Answer k (Err r)
-  pub before : (j : ℕ) → j < k → Answer j (Ok tt)
-
-abbrev pub FirstRefused : (Answer : ℕ → Result Unit Refusal → Type 0) (count : ℕ) → Result Unit Refusal → Type 0
-FirstRefused Answer count (Ok u) = (k : ℕ) → k < count → Answer k (Ok tt)
-FirstRefused Answer count (Err r) = RefusedAt Answer count r
+pub data FirstRefused (Answer : ℕ → Result Unit Refusal → Type 0) (count : ℕ) : Result Unit Refusal → Type 0 where
+  all_passed : ((k : ℕ) → k < count → Answer k (Ok tt)) → FirstRefused Answer count (Ok tt)
+  refused_at : {r : Refusal} (k : ℕ) → k < count → Answer k (Err r) → ((j : ℕ) → j < k → Answer j (Ok tt)) →
+      FirstRefused Answer count (Err r)

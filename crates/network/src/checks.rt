@@ -160,7 +160,11 @@ pub fn check_place(carriers: usize, order: &[u16], place: Place) -> Result<(), R
 pub fn check_moves(job: &JobNumbers) -> Result<(), Refusal>
     ensures { Judged (moves_question (job_in job.now)) result }
 {
-    let Network { nodes, lanes, closed } = job.network;
+    let Network {
+        nodes,
+        lanes,
+        closed,
+    } = job.network;
     let moves = job.moves;
     let carriers = moves.len() / 2;
     check_counts(

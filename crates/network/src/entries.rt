@@ -44,7 +44,10 @@ pub fn check_one(
 }
 
 // The check of every entry of a list that has so many: the first refusal.
-pub fn check_each<F: Fn(usize) -> Result<(), Refusal>>(count: usize, check: F) -> Result<(), Refusal>
+pub fn check_each<F: Fn(usize) -> Result<(), Refusal>>(
+    count: usize,
+    check: F,
+) -> Result<(), Refusal>
     requires { F.IsAlwaysCallable check }
     ensures { FirstRefused (F.post check) count result }
 {

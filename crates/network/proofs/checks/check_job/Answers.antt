@@ -1,0 +1,15 @@
+-- The checks up to the order's entries, then those of the order behind them.
+use Rattle.std.proofs.Common.{[], ◌∷◌, length, rules}
+use Rattle.hall.specs.Job.{Numbers, job_in, carriers}
+use Rattle.hall.specs.Questions.{order_checks, each_order_place, moves_question}
+use Rattle.hall.proofs.Compose.{judged_then}
+use Rattle.network.proofs.EachEntry.{each_judged}
+use Rattle.network.proofs.checks.check_job.Goals as goal
+
+pub returns : goal.returns
+returns c =
+    let j : Numbers = job_in c.args.job.now in
+    judged_then (moves_question j) (each_order_place (carriers j) j.order ∷ []) c.in_ok-check_moves.was
+    c.check_moves.ensures
+    c.check_each.result
+    (each_judged (order_checks (carriers j) j.order) (length j.order) c.check_each.ensures (λ k r h. search rules))
