@@ -2,15 +2,16 @@
 -- passes: it is a shortest path by its definition. Of all shortest paths of the move it is the first when
 -- compared node by node: where two agree up to a node, the house path takes the lowest next one, and the
 -- other's next node would do too. Assumes nothing.
-use mathlib.Core.Path.{◌≡◌, sym, ◌∙◌, subst}
+use mathlib.Core.Path.{◌≡◌, refl, sym, ◌∙◌, subst}
 use mathlib.Core.List.{List}
 use Prim.Native.Nat.{ℕ, zero, suc, ◌≤◌}
 use native.Mathlib.Numerals.{add-one}
 use native.Mathlib.Omega.{arith}
 use lib.ListN.{get_or, take}
-use Rattle.std.specs.Prelude.{Result, Ok, Err}
+use Rattle.std.specs.Prelude.{Result, Ok, Err, is_ok}
 use Rattle.hall.specs.declared.Refusal.{Refusal}
 use Rattle.hall.specs.Floor.{Floor, Network}
+use Rattle.hall.specs.Rule.{Answers}
 use Rattle.hall.specs.Path.{PathOf, ShortestPath, HousePath}
 use Rattle.hall.specs.Stages.{None}
 use Rattle.hall.specs.Questions.{move_question, list_of_move}
@@ -20,7 +21,7 @@ use Rattle.hall.proofs.Stages.{judged_unique}
 use Rattle.hall.proofs.Compose.{sound_none}
 use Rattle.hall.proofs.Places.{none_asked}
 use Rattle.path.specs.Paths.{Unfit, House, HouseAnswer, ListAnswer, Passes, NodeByNode}
-use Rattle.path.proofs.Listed.{passes_none, none_passes}
+use Rattle.path.proofs.Listed.{passes_none, none_passes, refused_fails}
 
 -- ---- a list is found sound exactly if it passes
 
@@ -32,6 +33,14 @@ module _ {N N' : Network} {s g : ℕ} {list list' : List ℕ} {r : Result Unit R
   pub sound_passes : r ≡ Ok tt → ListAnswer N N' s g list list' r → Passes N s g list
   sound_passes e a =
       none_passes N s g list (sound_none (list_of_move N s g (Unfit N s g list)) e a.judged)
+
+  -- so whether its answer is sound tells whether the list passes
+  pub answers_passes : ListAnswer N N' s g list list' r → Answers (is_ok r) (Passes N s g list)
+  answers_passes a = by_answer r refl
+    where
+      by_answer : (t : Result Unit Refusal) → r ≡ t → Answers (is_ok t) (Passes N s g list)
+      by_answer (Ok u) e = sound_passes e a
+      by_answer (Err t) e = refused_fails N s g list e a.judged
 
 -- ---- the house path
 

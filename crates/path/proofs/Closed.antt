@@ -11,7 +11,7 @@ use Prim.Native.Nat.{ℕ, ◌<◌}
 use native.Mathlib.Omega.{arith}
 use lib.ListN.{length, get_or, take}
 use Rattle.hall.specs.declared.Fault.TheVariants.{NotShortest}
-use Rattle.std.specs.Prelude.{Result, Ok, Err}
+use Rattle.std.specs.Prelude.{Result, Ok}
 use Rattle.hall.specs.declared.Refusal.{Refusal}
 use Rattle.hall.specs.Floor.{Network, Closed, floor}
 use Rattle.hall.specs.Path.{PathOf}

@@ -9,7 +9,7 @@ use native.Mathlib.Omega.{arith}
 use lib.ListN.{length, get_or}
 use Rattle.hall.specs.declared.Fault.TheVariants.{ShortTable}
 use Rattle.hall.specs.declared.Refusal.{Refusal}
-use Rattle.std.specs.Prelude.{Result, Ok, Err}
+use Rattle.std.specs.Prelude.{Result, Err}
 use Rattle.hall.specs.Limits.{node_limit}
 use Rattle.hall.specs.Floor.{Network}
 use Rattle.hall.specs.Numbers.{number_of}

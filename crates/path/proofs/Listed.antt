@@ -14,7 +14,7 @@ use native.Mathlib.Omega.{arith}
 use borrow.Author.Count.{below_more}
 use lib.ListN.{length, get_or}
 use Rattle.hall.specs.declared.Refusal.{Refusal}
-use Rattle.std.specs.Prelude.{Result, Ok, Err}
+use Rattle.std.specs.Prelude.{Result, Err}
 use Rattle.hall.specs.declared.Fault.TheVariants.{Unreachable, NotShortest}
 use Rattle.hall.specs.Floor.{Dist, NoWalk, Lane, Network, Open, floor}
 use Rattle.hall.specs.Path.{PathOf, ShortestPath}

@@ -1,7 +1,7 @@
 -- Of a network and a move that pass the checks before 8 (proofs/SoundMove.antt of crate `network`) only 8 is
 -- left to be looked for: it is given exactly if no walk joins start and goal, which the row of distances to
 -- the goal tells. Assumes nothing.
-use mathlib.Core.Path.{◌≡◌, refl}
+use mathlib.Core.Path.{◌≡◌}
 use mathlib.Core.Logic.{◌≢◌}
 use mathlib.Core.Bool.{Bool}
 use mathlib.Core.List.{List}
@@ -9,13 +9,13 @@ use Prim.Native.Nat.{ℕ, ◌<◌}
 use native.Mathlib.Omega.{arith}
 use lib.ListN.{length, get_or}
 use Rattle.hall.specs.declared.Fault.TheVariants.{Unreachable}
-use Rattle.std.specs.Prelude.{Result, Ok, Err}
+use Rattle.std.specs.Prelude.{Ok, Err}
 use Rattle.hall.specs.Limits.{node_limit, no_walk_mark}
 use Rattle.hall.specs.Floor.{Network}
 use Rattle.hall.specs.Stages.{None}
 use Rattle.hall.specs.Questions.{move_ends}
 use Rattle.hall.proofs.Walks.{reverse, lanes_symmetric, marked_none}
-use Rattle.hall.proofs.Compose.{none_at_all, none_append, first_after, not_both}
+use Rattle.hall.proofs.Compose.{none_at_all, none_append, first_after}
 use Rattle.hall.proofs.Places.{asked_here, asked_clear}
 use Rattle.network.proofs.SoundMove.{MoveSound, move_sound}
 use Rattle.walk.specs.Row.{RowFilled, Rowed}
@@ -27,7 +27,11 @@ module _ (N : Network) (s g : ℕ) (sound : None (move_ends N s g)) where
   facts : MoveSound N s g
   facts = move_sound N s g sound
 
-  -- the walk is served, so it has filled the row, where the start has a place
+  -- the start has a place in a row
+  pub start_inside : s < node_limit
+  start_inside = omega (arith, facts.start_open.numbered, facts.few_nodes)
+
+  -- the walk is served, so it has filled the row
   pub row_filled : {row left : List ℕ} {r : Bool} → length row ≡ node_limit → Rowed N g row left r →
       RowFilled N g row left
   row_filled size told =
@@ -39,28 +43,19 @@ module _ (N : Network) (s g : ℕ) (sound : None (move_ends N s g)) where
       })
       told).1
 
-  pub start_inside : {row left : List ℕ} → length row ≡ node_limit → RowFilled N g row left → s < length left
-  start_inside size filled = omega (arith, facts.start_open.numbered, facts.few_nodes, filled.size, size)
-
   -- ---- what the distances to the goal tell
 
   module _ {row left : List ℕ} (filled : RowFilled N g row left) where
     pub walk_missing : get_or left s 0 ≡ no_walk_mark
-        → MoveReached N s g left (Err (record { fault = Unreachable; place = 0 }))
+        → MoveReached N s g (Err (record { fault = Unreachable; place = 0 }))
     walk_missing e =
         let marked = marked_none (filled.holds s facts.start_open.numbered) e in
-        record {
-          judged = first_after sound (asked_here (λ n w. marked n (reverse (lanes_symmetric N) w)));
-          downhill = λ x. absurd (not_both refl x);
-        }
+        first_after sound (asked_here (λ n w. marked n (reverse (lanes_symmetric N) w)))
 
-    pub walk_there : length row ≡ node_limit → get_or left s 0 ≢ no_walk_mark → MoveReached N s g left (Ok tt)
-    walk_there size h = record {
-      judged =
-          let there = (start_distance down).walk in
-          none_append sound (asked_clear (λ none. none (get_or left s 0) there) none_at_all);
-      downhill = λ x. down;
-    }
+    pub walk_there : length row ≡ node_limit → get_or left s 0 ≢ no_walk_mark → MoveReached N s g (Ok left)
+    walk_there size h =
+        let there = (start_distance down).walk in
+        (none_append sound (asked_clear (λ none. none (get_or left s 0) there) none_at_all), down)
       where
         down : Downhill N s g left
         down = record {

@@ -1,8 +1,8 @@
 -- The steps inside the questions about paths. No public promise speaks of them: the functions of this crate
 -- promise them to each other. N is the network, s and g are the move's start and goal.
 --     Downhill       a row with the distance of every node to the goal, and the start is reached
---     MoveReached    the checks of a move without a list: 2, 3, 12, 4, 5, 13, 8; if none holds, the row is
---                    downhill
+--     MoveReached    what the checks of a move without a list answer: 2, 3, 12, 4, 5, 13, 8; where none holds,
+--                    a downhill row
 --     Next           node v is a neighbour of u, at the wanted distance
 --     Nearer         one end of a lane was looked at: node b was taken for the best so far, or not
 --     LowestNext     the lowest-numbered neighbour at the wanted distance, or the mark if there is none
@@ -13,12 +13,13 @@
 --     OnWay          the number v is a node, and the row has a distance there: it is open and has a walk to
 --                    the goal
 --     AllOnWay       every number of the list is such a node
-use Rattle.std.specs.Prelude.{◌≡◌, ◌⊎◌, ◌≢◌, List, ℕ, ◌+◌, ◌-◌, ◌≤◌, ◌<◌, length, get_or, take, Result, Ok}
+use Rattle.std.specs.Prelude.{◌≡◌, ◌⊎◌, ◌≢◌, List, ℕ, ◌+◌, ◌-◌, ◌≤◌, ◌<◌, length, get_or, take, Result, Ok, Err}
 use Rattle.hall.specs.declared.Refusal.{Refusal}
 use Rattle.hall.specs.Limits.{node_limit, no_walk_mark}
 use Rattle.hall.specs.Floor.{DistanceIs, Lane, Network, floor}
 use Rattle.hall.specs.Path.{HousePath}
-use Rattle.hall.specs.Said.{Judged}
+use Rattle.hall.specs.Numbers.{number_of}
+use Rattle.hall.specs.Stages.{First, None}
 use Rattle.hall.specs.Questions.{move_question}
 
 pub record Downhill (N : Network) (s g : ℕ) (row : List ℕ) : Type 0 where
@@ -28,9 +29,9 @@ pub record Downhill (N : Network) (s g : ℕ) (row : List ℕ) : Type 0 where
   pub numbered : s < N.nodes
   pub reached : get_or row s 0 ≢ no_walk_mark
 
-pub record MoveReached (N : Network) (s g : ℕ) (row : List ℕ) (r : Result Unit Refusal) : Type 0 where
-  pub judged : Judged (move_question N s g) r
-  pub downhill : r ≡ Ok tt → Downhill N s g row
+abbrev pub MoveReached : (N : Network) (s g : ℕ) → Result (List ℕ) Refusal → Type 0
+MoveReached N s g (Ok row) = None (move_question N s g) × Downhill N s g row
+MoveReached N s g (Err r) = First (move_question N s g) (number_of r.fault) r.place
 
 pub record Next (nodes : ℕ) (lanes row : List ℕ) (u wanted v : ℕ) : Type 0 where
   pub numbered : v < nodes

@@ -18,20 +18,18 @@ ghost use Rattle.path.specs.Steps.{Downhill, MoveReached, Nearer, LowestNext, La
 
 use hall::{Ends, Fault, Job, Network, Refusal};
 
-// The checks of a move: 2, 3, 12, 4, 5, 13 and 8. Where none holds, the row has each node's distance to the
-// goal.
-fn check_reached(network: &Network, ends: Ends, row: &mut [u16]) -> Result<(), Refusal>
-    requires { length row.old ≡ node_limit }
-    ensures { MoveReached (network_in network.now) ends.start ends.goal row.new result }
+// The checks of a move: 2, 3, 12, 4, 5, 13 and 8. Where none holds, the answer is the row with each node's
+// distance to the goal.
+fn check_reached(network: &Network, ends: Ends) -> Result<[u16; Job::NODES], Refusal>
+    ensures { MoveReached (network_in network.now) ends.start ends.goal result }
 {
     network::checks::check_move(network, ends)?;
-    walk::distances(network, ends.goal, row);
-    let here = ends.start as usize;
-    let distance = row[here];
-    if distance == Job::NO_WALK {
+    let mut row = [0; Job::NODES];
+    walk::distances(network, ends.goal, &mut row);
+    if row[ends.start as usize] == Job::NO_WALK {
         return Err(Refusal::new(Fault::Unreachable, 0));
     }
-    Ok(())
+    Ok(row)
 }
 
 // One end of a lane, seen from node u: if the lane leads from u to a node b at the wanted distance, the lower
@@ -117,8 +115,7 @@ pub fn house(network: &Network, ends: Ends, path: &mut [u16]) -> Result<usize, R
         return Err(Refusal::new(Fault::ShortTable, 0));
     }
     hall::zero::fill_first(path, Job::NODES, 0);
-    let mut row: [u16; Job::NODES] = [0; Job::NODES];
-    check_reached(network, ends, &mut row)?;
+    let row = check_reached(network, ends)?;
     let count = lay(network.nodes, network.lanes, &row, ends, path);
     Ok(count)
 }
@@ -208,11 +205,8 @@ pub fn judge(network: &Network, ends: Ends, list: &[u16]) -> Result<(), Refusal>
         list.now list.now
         result }
 {
-    let mut row: [u16; Job::NODES] = [0; Job::NODES];
-    check_reached(network, ends, &mut row)?;
-    let here = ends.start as usize;
-    let distance = row[here] as usize;
-    let whole = distance + 1;
+    let row = check_reached(network, ends)?;
+    let whole = row[ends.start as usize] as usize + 1;
     let count = list.len();
     let unfit = Refusal::new(Fault::NotShortest, 0);
     if count == whole {
@@ -236,12 +230,10 @@ pub fn choose<'a>(network: &Network, ends: Ends, own: &'a [u16], spare: &'a [u16
         spare.entry spare.exit
         result }
 {
-    let first = judge(network, ends, own);
-    if first.is_ok() {
+    if judge(network, ends, own).is_ok() {
         return own;
     }
-    let second = judge(network, ends, spare);
-    if second.is_ok() {
+    if judge(network, ends, spare).is_ok() {
         return spare;
     }
     &own[..0]

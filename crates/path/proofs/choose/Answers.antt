@@ -1,21 +1,21 @@
 -- A list that the question about it finds sound passes, one that it refuses does not, and each return is one case
 -- of `Chosen`. What is returned is the reference that was lent, or the part of the own list that ends where it
 -- begins.
-use Rattle.std.proofs.Common.{refl}
+use Rattle.std.proofs.Common.{refl, sym}
+use Rattle.hall.proofs.Answers.{affirmed, denied}
 use Rattle.path.specs.Paths.{own_list, spare_list, neither}
-use Rattle.path.proofs.Listed.{refused_fails}
-use Rattle.path.proofs.Agree.{sound_passes}
+use Rattle.path.proofs.Agree.{answers_passes}
 use Rattle.path.proofs.choose.Goals as goal
 
-pub returns-in-Sound : goal.returns-in-Sound
-returns-in-Sound c =
-    let passes = sound_passes c.in-Sound.is c.judge-first.ensures in
+pub returns-then-is_ok : goal.returns-then-is_ok
+returns-then-is_ok c =
+    let passes = affirmed _ (sym c.if-is_ok.ensures.value) (answers_passes c.judge.ensures) in
     record { chosen = own_list passes refl; network_kept = refl; own_kept = refl; spare_kept = refl }
 
-pub returns-in-Sound-second : goal.returns-in-Sound-second
-returns-in-Sound-second c =
-    let own_fails = refused_fails _ _ _ _ c.in_default.is c.judge-first.ensures.judged in
-    let passes = sound_passes c.in-Sound-second.is c.judge-second.ensures in
+pub returns-then-is_ok-2 : goal.returns-then-is_ok-2
+returns-then-is_ok-2 c =
+    let own_fails = denied _ (sym c.if-is_ok.ensures.value) (answers_passes c.judge.ensures) in
+    let passes = affirmed _ (sym c.if-is_ok-2.ensures.value) (answers_passes c.judge-2.ensures) in
     record {
       chosen = spare_list own_fails passes refl;
       network_kept = refl;
@@ -25,8 +25,8 @@ returns-in-Sound-second c =
 
 pub returns : goal.returns
 returns c =
-    let own_fails = refused_fails _ _ _ _ c.in_default.is c.judge-first.ensures.judged in
-    let spare_fails = refused_fails _ _ _ _ c.in_default-second.is c.judge-second.ensures.judged in
+    let own_fails = denied _ (sym c.if-is_ok.ensures.value) (answers_passes c.judge.ensures) in
+    let spare_fails = denied _ (sym c.if-is_ok-2.ensures.value) (answers_passes c.judge-2.ensures) in
     record {
       chosen = neither own_fails spare_fails refl refl;
       network_kept = refl;

@@ -1,22 +1,32 @@
 -- The list is zeroed before the move is checked, so the house path of a sound move is laid into zeros.
-use Rattle.hall.specs.Floor.{Network, network_of}
-use Rattle.hall.specs.Stages.{Question}
+use Rattle.std.proofs.Common.{refl, arith}
+use Rattle.std.proofs.lemmas.Result.{err_from_is_err_and}
+use Rattle.hall.specs.Floor.{Network, network_in}
 use Rattle.hall.specs.Questions.{move_question}
-use Rattle.hall.proofs.Compose.{sound_none}
-use Rattle.std.proofs.Common.{refl}
-use Rattle.path.proofs.Housing.{left_accepted, house_laid}
+use Rattle.path.proofs.Housing.{left_refused, left_accepted, house_laid}
 use Rattle.path.proofs.house.Goals as goal
+
+pub returns-in_err-row : goal.returns-in_err-row
+returns-in_err-row c =
+    let N : Network = network_in c.args.network.now in
+    let p = err_from_is_err_and c.from_residual.result c.from_residual.ensures.1 in
+    rw (p.1, p.2)
+    (record {
+      given =
+          left_refused (move_question N c.args.ends.start c.args.ends.goal) N
+          c.args.ends.start c.args.ends.goal c.args.path.now (omega (arith, c.if-path-lt-NODES.false))
+          (omega arith) refl c.in_err-row.ensures c.fill_first.ensures;
+      network_kept = refl;
+    })
 
 pub returns : goal.returns
 returns c =
-    let N : Network = network_of c.args.nodes c.args.lanes.now c.args.closed.now in
-    let q : Question = move_question N c.args.start c.args.goal in
-    let reached = c.check_reached-reached.ensures in
-    let none = sound_none q c.in_default.is reached.judged in
-    let laid = c.lay-count.ensures c.args.closed.now (reached.downhill c.in_default.is) in
+    let N : Network = network_in c.args.network.now in
+    let reached = c.in_ok-row.ensures in
+    let laid = c.lay-count.ensures c.args.network.now.closed.now reached.1 in
     record {
       given =
-          left_accepted q N c.args.start c.args.goal c.args.path.now c.if-room-lt-NODES.false none
-          (house_laid c.args.path.now c.zero_first.ensures laid);
+          left_accepted _ N c.args.ends.start c.args.ends.goal c.args.path.now
+          (omega (arith, c.if-path-lt-NODES.false)) reached.0 (house_laid c.args.path.now c.fill_first.ensures laid);
       network_kept = refl;
     }

@@ -9,8 +9,8 @@ use Rattle.path.proofs.lay.Given as goal
 abbrev pub invariant-loop-u : goal.invariant-loop-u
 invariant-loop-u l =
     (closed : List ℕ) →
-    Downhill (network_of l.nodes l.lanes closed) l.start l.goal l.row →
-    Laying (network_of l.nodes l.lanes closed) l.start l.goal l.initial.left l.initial.path l.u l.left l.at l.path
+    Downhill (network_of l.nodes l.lanes closed) l.ends.start l.ends.goal l.row →
+    Laying (network_of l.nodes l.lanes closed) l.ends.start l.ends.goal l.initial.left l.initial.path l.u l.left l.at l.path
 
 abbrev pub decreases-loop-u : goal.decreases-loop-u
 decreases-loop-u l = l.left

@@ -9,7 +9,7 @@ pub loop-k-init : goal.loop-k-init
 loop-k-init c = (
   omega (arith, c.if-count-eq0.false),
   omega arith,
-  walking_none _ c.if-list-start.false c.if-list-last.false,
+  walking_none _ c.if-list-ends.false c.if-list-last.false,
 )
 
 pub loop-k-preserved : goal.loop-k-preserved

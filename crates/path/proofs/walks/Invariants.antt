@@ -6,7 +6,7 @@ use Rattle.path.proofs.walks.Given as goal
 
 abbrev pub invariant-loop-k : goal.invariant-loop-k
 invariant-loop-k l =
-    (l.last + 1 ≡ length l.list) × (l.k ≤ l.last) × Walking l.lanes l.start l.goal l.list l.k
+    (l.last + 1 ≡ length l.list) × (l.k ≤ l.last) × Walking l.lanes l.fn.ends.start l.fn.ends.goal l.list l.k
 
 abbrev pub decreases-loop-k : goal.decreases-loop-k
 decreases-loop-k l = l.last - l.k
