@@ -15,6 +15,7 @@ use native.Mathlib.Omega.{arith}
 use lib.ListN.{length, get_or, set}
 use lib.IntN.{pos, ◌-ℤ◌}
 use Rattle.hall.specs.declared.Refusal.{Refusal}
+use Rattle.std.specs.Prelude.{Err}
 use Rattle.hall.specs.Limits.{no_walk_mark}
 use Rattle.hall.specs.Floor.{Floor, Dist, NoWalk, Network, floor}
 use Rattle.hall.specs.Rule.{Pair, Permitted}
@@ -31,7 +32,7 @@ use Rattle.hall.proofs.Decide.{joined_or_not}
 use Rattle.rule.proofs.Bound.{first_tick_bound}
 use Rattle.slots.specs.declared.Slot.{Slot}
 use Rattle.slots.specs.declared.Book.{Book}
-use Rattle.admission.specs.declared.Answer.TheVariants.{Refused}
+use Rattle.admission.specs.declared.rows.Rows.{Rows}
 use Rattle.admission.specs.declared.Stepped.{Stepped}
 use Rattle.slots.specs.Record.{slot_count, free, slot_at, Held, forgetting}
 use Rattle.slots.specs.Record.{LowestFree, book_with}
@@ -130,18 +131,18 @@ module _ (N : Network) (b : Book) (now s g : ℕ) (size : length b.slots ≡ slo
           cases (yes e) = subst (Dist F a c) e h.1
           cases (no e) = absurd (k (λ x. e (dist_unique h.1 x)))
 
-  module _ (outward inward : List ℕ) (rows : RowsFrom N s g outward inward) where
+  module _ (rows : Rows) (from_ends : RowsFrom N s g rows) where
     abbrev own : ℕ
-    own = get_or outward g 0
+    own = get_or rows.outward g 0
 
     abbrev pair : Slot → Pair
-    pair c = pair_for outward inward own c
+    pair c = pair_for rows own c
 
     own_reached : own ≢ no_walk_mark
-    own_reached e = walk_there N s g (move_clear N b now s g sound) (marked_none (rows.of_start g (call_tells N b now s g sound).goal_open.numbered) e)
+    own_reached e = walk_there N s g (move_clear N b now s g sound) (marked_none (from_ends.of_start g (call_tells N b now s g sound).goal_open.numbered) e)
 
     pub own_distance : Dist (floor N) s g own
-    own_distance = true_distance (rows.of_start g (call_tells N b now s g sound).goal_open.numbered) own_reached
+    own_distance = true_distance (from_ends.of_start g (call_tells N b now s g sound).goal_open.numbered) own_reached
 
     -- the pair of a carrier held, by the rows
     pub true_pair : (i : ℕ) → Held kept i → DistancesOf (floor N) (slot_at kept i).start (slot_at kept i).goal s g (pair (slot_at kept i))
@@ -154,16 +155,16 @@ module _ (N : Network) (b : Book) (now s g : ℕ) (size : length b.slots ≡ slo
         record {
           own_i = d;
           own_j = own_distance;
-          starts = rw (taken_test c h.taken) (distance_symmetric (lanes_symmetric N) (rows.of_start c.start start));
-          goals = distance_symmetric (lanes_symmetric N) (rows.of_goal c.goal goal);
-          i_to_j = distance_symmetric (lanes_symmetric N) (rows.of_goal c.start start);
-          j_to_i = rows.of_start c.goal goal;
+          starts = rw (taken_test c h.taken) (distance_symmetric (lanes_symmetric N) (from_ends.of_start c.start start));
+          goals = distance_symmetric (lanes_symmetric N) (from_ends.of_goal c.goal goal);
+          i_to_j = distance_symmetric (lanes_symmetric N) (from_ends.of_goal c.start start);
+          j_to_i = from_ends.of_start c.goal goal;
         }
 
     -- a free slot forbids nothing
     pub free_permits : (c : Slot) → c ≡ free → (x t : ℕ) → Permitted w (pair c) (pos x -ℤ pos t)
     unfolding pair_for
-    free_permits c e x t f = f.joined (ap (λ y. starts_for y (get_or outward c.start 0)) (free_test c e))
+    free_permits c e x t f = f.joined (ap (λ y. starts_for y (get_or rows.outward c.start 0)) (free_test c e))
 
     to_held : (x : ℕ) → PermittedBy w slot_count (λ i. pair (slot_at kept i)) (λ i. (slot_at kept i).tick) x → PermittedHeld N w kept s g x
     unfolding PermittedBy PermittedHeld PermitsOne
@@ -179,14 +180,14 @@ module _ (N : Network) (b : Book) (now s g : ℕ) (size : length b.slots ≡ slo
             let h : Held kept i = record { inside = omega (arith, forgetting_length w now b.slots); taken = k } in
             f i h (pair (slot_at kept i)) (true_pair i h)
 
-    pub true_smallest : {x : ℕ} → TickFor outward inward own w now kept x → SmallestFrom now (PermittedHeld N w kept s g) x
+    pub true_smallest : {x : ℕ} → TickFor rows own w now kept x → SmallestFrom now (PermittedHeld N w kept s g) x
     true_smallest {x} t = record {
       not_before = t.not_before;
       permitted = to_held x t.permitted;
       least = λ y l f. t.least y l (of_held y f);
     }
 
-    pub tick_fits : {x : ℕ} → TickFor outward inward own w now kept x → x ≤ 4000201279
+    pub tick_fits : {x : ℕ} → TickFor rows own w now kept x → x ≤ 4000201279
     unfolding pair_for
     tick_fits {x} t =
         first_tick_bound w slot_count (λ i. pair (slot_at kept i)) (λ i. (slot_at kept i).tick) 4000201279 t
@@ -196,7 +197,7 @@ module _ (N : Network) (b : Book) (now s g : ℕ) (size : length b.slots ≡ slo
 -- ---- the answers
 
 module _ (N : Network) (b : Book) (now s g : ℕ) where
-  pub refuses : {r : Stepped} (f : Refusal) → r ≡ record { answer = Refused f; book = b } → First (admission_question N b now s g) (number_of f.fault) f.place
+  pub refuses : {r : Stepped} (f : Refusal) → r ≡ record { answer = Err f; book = b } → First (admission_question N b now s g) (number_of f.fault) f.place
       → Admission N b now s g (said_answer r.answer) r.book × Settles N now (said_answer r.answer) r.book
   refuses f e h = rw e (record { fits = h; outcome = refl }, tt)
 
@@ -204,15 +205,15 @@ module _ (N : Network) (b : Book) (now s g : ℕ) where
     pub no_slot : ((j : ℕ) → j < slot_count → slot_at (forgetting b.dwell now b.slots) j ≢ free) → First (admission_question N b now s g) 15 0
     no_slot none = first_after sound (asked_here (full_if b size now none))
 
-    pub admitted : {x : ℕ} (outward inward : List ℕ) → RowsFrom N s g outward inward → (slot : ℕ) → LowestFree (forgetting b.dwell now b.slots) slot
-        → TickFor outward inward (get_or outward g 0) b.dwell now (forgetting b.dwell now b.slots) x
-        → Admission N b now s g (accepted (record { tick = x; slot = slot })) (book_with now b.dwell (set (forgetting b.dwell now b.slots) slot (carrier_of s g (get_or outward g 0) x)))
-    admitted outward inward rows slot low t = record {
+    pub admitted : {x : ℕ} (rows : Rows) → RowsFrom N s g rows → (slot : ℕ) → LowestFree (forgetting b.dwell now b.slots) slot
+        → TickFor rows (get_or rows.outward g 0) b.dwell now (forgetting b.dwell now b.slots) x
+        → Admission N b now s g (accepted (record { tick = x; slot = slot })) (book_with now b.dwell (set (forgetting b.dwell now b.slots) slot (carrier_of s g (get_or rows.outward g 0) x)))
+    admitted rows from_ends slot low t = record {
       fits = none_append sound (asked_clear (not_full b size now low) none_at_all);
       outcome = record {
-        distance = get_or outward g 0;
-        own = own_distance N b now s g size sound outward inward rows;
-        smallest = true_smallest N b now s g size sound outward inward rows t;
+        distance = get_or rows.outward g 0;
+        own = own_distance N b now s g size sound rows from_ends;
+        smallest = true_smallest N b now s g size sound rows from_ends t;
         takes = low;
         left_is = refl;
       };

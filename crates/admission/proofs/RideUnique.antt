@@ -18,8 +18,9 @@ use Rattle.hall.proofs.Numbers.{number_one_fault}
 use Rattle.hall.proofs.Stages.{none_excludes, first_unique}
 use Rattle.slots.specs.declared.Book.{Book}
 use Rattle.admission.specs.declared.Entry.{Entry}
-use Rattle.admission.specs.declared.trolley.Ended.{Ended}
-use Rattle.admission.specs.declared.trolley.Ended.TheVariants.{All, Stopped, Refused}
+use Rattle.std.specs.Prelude.{Result, Ok, Err}
+use Rattle.admission.specs.declared.trolley.Stop.{Stop}
+use Rattle.admission.specs.declared.trolley.Stop.TheVariants.{Before, At}
 use Rattle.admission.specs.Trolley.{Ending, all, stopped, refused_whole, said_ended, PutTo, Admits, none_yet, one_more}
 use Rattle.admission.specs.Trolley.{Rides, to_the_end, up_to, Ride, not_begun, begun}
 use Rattle.admission.proofs.Unique.{admission_unique}
@@ -87,7 +88,7 @@ module _ (N : Network) (b : Book) (now : ℕ) (moves : List ℕ) where
       let o = rides_once x y in
       (o.0, o.2, u ∙ (λ i. table.filled (o.1 i) carrier_limit before) ∙ sym v)
 
--- ---- what is said is said by one `Ended`
+-- ---- what is said is said by one end
 
 abbrev kind : Ending → ℕ
 kind all = 0
@@ -113,21 +114,21 @@ ending_place (refused_whole n p) = p
 pub refusal_once : (r t : Refusal) → number_of r.fault ≡ number_of t.fault → r.place ≡ t.place → r ≡ t
 refusal_once r t e f = let same = number_one_fault r.fault t.fault e in λ i. record { fault = same i; place = f i }
 
-other_kind : (e f : Ended) → said_ended e ≡ said_ended f → ¬ (kind (said_ended e) ≡ kind (said_ended f)) → e ≡ f
+other_kind : (e f : Result Unit Stop) → said_ended e ≡ said_ended f → ¬ (kind (said_ended e) ≡ kind (said_ended f)) → e ≡ f
 other_kind e f h differ = absurd (differ (ap kind h))
 
-ended_once : (e f : Ended) → said_ended e ≡ said_ended f → e ≡ f
-ended_once All All h = refl
-ended_once (Stopped k r) (Stopped m t) h = λ i. Stopped (ap ending_move h i) (refusal_once r t (ap ending_number h) (ap ending_place h) i)
-ended_once (Refused r) (Refused t) h = λ i. Refused (refusal_once r t (ap ending_number h) (ap ending_place h) i)
-ended_once All (Stopped m t) h = other_kind All (Stopped m t) h (λ e. omega arith)
-ended_once All (Refused t) h = other_kind All (Refused t) h (λ e. omega arith)
-ended_once (Stopped k r) All h = other_kind (Stopped k r) All h (λ e. omega arith)
-ended_once (Stopped k r) (Refused t) h = other_kind (Stopped k r) (Refused t) h (λ e. omega arith)
-ended_once (Refused r) All h = other_kind (Refused r) All h (λ e. omega arith)
-ended_once (Refused r) (Stopped m t) h = other_kind (Refused r) (Stopped m t) h (λ e. omega arith)
+ended_once : (e f : Result Unit Stop) → said_ended e ≡ said_ended f → e ≡ f
+ended_once (Ok u) (Ok v) h = refl
+ended_once (Err (At k r)) (Err (At m t)) h = λ i. Err (At (ap ending_move h i) (refusal_once r t (ap ending_number h) (ap ending_place h) i))
+ended_once (Err (Before r)) (Err (Before t)) h = λ i. Err (Before (refusal_once r t (ap ending_number h) (ap ending_place h) i))
+ended_once (Ok u) (Err (At m t)) h = other_kind (Ok u) (Err (At m t)) h (λ e. omega arith)
+ended_once (Ok u) (Err (Before t)) h = other_kind (Ok u) (Err (Before t)) h (λ e. omega arith)
+ended_once (Err (At k r)) (Ok v) h = other_kind (Err (At k r)) (Ok v) h (λ e. omega arith)
+ended_once (Err (At k r)) (Err (Before t)) h = other_kind (Err (At k r)) (Err (Before t)) h (λ e. omega arith)
+ended_once (Err (Before r)) (Ok v) h = other_kind (Err (Before r)) (Ok v) h (λ e. omega arith)
+ended_once (Err (Before r)) (Err (At m t)) h = other_kind (Err (Before r)) (Err (At m t)) h (λ e. omega arith)
 
-pub ended_unique : (N : Network) (b : Book) (now : ℕ) (moves before : List ℕ) (r r' : Ended) {h g : Book} {s t : List ℕ}
+pub ended_unique : (N : Network) (b : Book) (now : ℕ) (moves before : List ℕ) (r r' : Result Unit Stop) {h g : Book} {s t : List ℕ}
     → Ride N b now moves before (said_ended r) h s → Ride N b now moves before (said_ended r') g t
     → (r ≡ r') × (h ≡ g) × (s ≡ t)
 ended_unique N b now moves before r r' x y =

@@ -14,8 +14,8 @@ use native.Mathlib.Nat.{le_refl}
 use native.Mathlib.Omega.{arith}
 use lib.ListN.{length, set}
 use Rattle.hall.specs.declared.Fault.TheVariants.{Unreachable}
-use Rattle.hall.specs.declared.Checked.{Checked}
-use Rattle.hall.specs.declared.Checked.TheVariants.{Sound, Refused}
+use Rattle.std.specs.Prelude.{Result, Ok, Err}
+use Rattle.hall.specs.declared.Refusal.{Refusal}
 use Rattle.hall.specs.Floor.{Dist, NoWalk, Network, floor}
 use Rattle.hall.specs.Stages.{asked, only_at}
 use Rattle.hall.specs.Questions.{ends, network_question, move_ends, move_question}
@@ -110,9 +110,9 @@ module _ (N : Network) {b left : Book} {now s g : ℕ} {e : Entry} (size : lengt
   settled_then = took_settled N b.dwell refl size (took N b.dwell refl a)
 
 -- the rest of the question lies before the move and behind it, and passes
-pub settled_judged : (N : Network) (b : Book) (t s g : ℕ) → Settled N b t → (r : Checked) → Judged (move_question N s g) r → Judged (call_question N b t s g) r
+pub settled_judged : (N : Network) (b : Book) (t s g : ℕ) → Settled N b t → (r : Result Unit Refusal) → Judged (move_question N s g) r → Judged (call_question N b t s g) r
 settled_judged N b t s g known r h = judged_after (book_question b t) (move_question N s g ++ (stale_slots N b.dwell t b.slots ∷ [])) known.of_book r (behind r h)
   where
-    behind : (r : Checked) → Judged (move_question N s g) r → Judged (move_question N s g ++ (stale_slots N b.dwell t b.slots ∷ [])) r
-    behind Sound k = none_append k known.of_slots
-    behind (Refused f) k = first_before (stale_slots N b.dwell t b.slots ∷ []) k
+    behind : (r : Result Unit Refusal) → Judged (move_question N s g) r → Judged (move_question N s g ++ (stale_slots N b.dwell t b.slots ∷ [])) r
+    behind (Ok u) k = none_append k known.of_slots
+    behind (Err f) k = first_before (stale_slots N b.dwell t b.slots ∷ []) k

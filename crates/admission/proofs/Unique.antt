@@ -13,8 +13,8 @@ use Rattle.hall.proofs.Ticks.{smallest_unique}
 use Rattle.slots.proofs.Unique.{lowest_once}
 use Rattle.slots.specs.declared.Book.{Book}
 use Rattle.admission.specs.declared.Entry.{Entry}
-use Rattle.admission.specs.declared.Answer.{Answer}
-use Rattle.admission.specs.declared.Answer.TheVariants.{Starts, Refused}
+use Rattle.std.specs.Prelude.{Result, Ok, Err}
+use Rattle.hall.specs.declared.Refusal.{Refusal}
 use Rattle.slots.specs.Record.{forgetting, book_with}
 use Rattle.admission.specs.Admission.{carrier_of, Admitted, Admission, said_answer}
 
@@ -38,14 +38,14 @@ admission_unique N (refused n p) (refused m q) a c =
     ((λ i. refused (e.0 i) (e.1 i)), a.outcome ∙ sym c.outcome)
 
 -- the same of the answers themselves: one that is refused has the fault of its number
-pub answer_unique : (N : Network) {b left other : Book} {now s g : ℕ} (r r' : Answer)
+pub answer_unique : (N : Network) {b left other : Book} {now s g : ℕ} (r r' : Result Entry Refusal)
     → Admission N b now s g (said_answer r) left → Admission N b now s g (said_answer r') other
     → (r ≡ r') × (left ≡ other)
-answer_unique N (Starts x) (Starts y) a c =
-    ((λ i. Starts (entry_once a.outcome c.outcome i)), left_once a.outcome c.outcome)
-answer_unique N (Starts x) (Refused t) a c = absurd (none_excludes c.fits a.fits)
-answer_unique N (Refused r) (Starts y) a c = absurd (none_excludes a.fits c.fits)
-answer_unique N (Refused r) (Refused t) a c =
+answer_unique N (Ok x) (Ok y) a c =
+    ((λ i. Ok (entry_once a.outcome c.outcome i)), left_once a.outcome c.outcome)
+answer_unique N (Ok x) (Err t) a c = absurd (none_excludes c.fits a.fits)
+answer_unique N (Err r) (Ok y) a c = absurd (none_excludes a.fits c.fits)
+answer_unique N (Err r) (Err t) a c =
     let e = first_unique a.fits c.fits in
     let same = number_one_fault r.fault t.fault e.0 in
-    ((λ i. Refused (record { fault = same i; place = e.1 i })), a.outcome ∙ sym c.outcome)
+    ((λ i. Err (record { fault = same i; place = e.1 i })), a.outcome ∙ sym c.outcome)

@@ -9,19 +9,18 @@
 --                     permits, the slot is the lowest free one, and the clock is now
 --     Outcome         what an answer leaves: a refused call leaves the book as it came
 --     Admission       the promise: the answer fits the question, and the book is left so
---     said_answer      what an `Answer` says: a start tick and a slot, or a refusal
-use Rattle.std.specs.Prelude.{◌≡◌, List, ℕ, set, pos, ◌-ℤ◌}
+--     said_answer      what an admission answers: a start tick and a slot, or a refusal
+use Rattle.std.specs.Prelude.{◌≡◌, Result, List, ℕ, set, pos, ◌-ℤ◌}
 use Rattle.hall.specs.Floor.{Dist, Network, floor}
 use Rattle.hall.specs.Rule.{Pair, Permitted}
 use Rattle.hall.specs.Ticks.{SmallestFrom}
 use Rattle.hall.specs.Plan.{DistancesOf}
-use Rattle.hall.specs.Said.{Said, accepted, refused, Fits, said_refusal}
+use Rattle.hall.specs.declared.Refusal.{Refusal}
+use Rattle.hall.specs.Said.{Said, accepted, refused, Fits, said}
 use Rattle.slots.specs.declared.Slot.{Slot}
 use Rattle.slots.specs.declared.Book.{Book}
 use Rattle.slots.specs.Record.{slot_at, Held, forgetting, LowestFree, book_with}
 use Rattle.admission.specs.declared.Entry.{Entry}
-use Rattle.admission.specs.declared.Answer.{Answer}
-use Rattle.admission.specs.declared.Answer.TheVariants.{Starts, Refused}
 use Rattle.admission.specs.Questions.{admission_question}
 
 unfoldable pub PermitsOne : Network → (w : ℕ) → Slot → (s g x : ℕ) → Type 0
@@ -52,6 +51,5 @@ pub record Admission (N : Network) (b : Book) (now s g : ℕ) (said : Said Entry
   pub fits : Fits (admission_question N b now s g) said
   pub outcome : Outcome N b now s g said left
 
-abbrev pub said_answer : Answer → Said Entry
-said_answer (Starts e) = accepted e
-said_answer (Refused r) = said_refusal r
+abbrev pub said_answer : Result Entry Refusal → Said Entry
+said_answer = said (λ e. e)

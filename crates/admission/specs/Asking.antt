@@ -8,17 +8,17 @@
 --                     the lowest of all slots that do
 --     Right           so it is of an answer that is no refusal
 --     Asking          the promise: the answer fits the question, and its verdict is right
---     said_asked       what an `Asked` says: a verdict, or a refusal
-use Rattle.std.specs.Prelude.{List, ℕ, ◌<◌, pos, ◌-ℤ◌}
+--     said_asked       what is answered: a verdict, which names the lowest slot that forbids it if one does, or
+--                     a refusal
+use Rattle.std.specs.Prelude.{Option, Some, None, Result, List, ℕ, ◌<◌, pos, ◌-ℤ◌}
 use Rattle.hall.specs.Floor.{Network, floor}
 use Rattle.hall.specs.Rule.{Pair, Forbidden}
 use Rattle.hall.specs.Plan.{DistancesOf}
-use Rattle.hall.specs.Said.{Said, accepted, refused, Fits, said_refusal}
+use Rattle.hall.specs.declared.Refusal.{Refusal}
+use Rattle.hall.specs.Said.{Said, accepted, refused, Fits, said}
 use Rattle.slots.specs.declared.Slot.{Slot}
 use Rattle.slots.specs.declared.Book.{Book}
 use Rattle.slots.specs.Record.{slot_at, Standing}
-use Rattle.admission.specs.declared.ask.Asked.{Asked}
-use Rattle.admission.specs.declared.ask.Asked.TheVariants.{May, Forbids, Refused}
 use Rattle.admission.specs.Questions.{call_question}
 
 pub record ForbiddenBy (N : Network) (w : ℕ) (slots : List Slot) (t s g i : ℕ) : Type 0 where
@@ -45,7 +45,9 @@ pub record Asking (N : Network) (b : Book) (t s g : ℕ) (said : Said Verdict) :
   pub fits : Fits (call_question N b t s g) said
   pub right : Right N b t s g said
 
-abbrev pub said_asked : Asked → Said Verdict
-said_asked May = accepted may
-said_asked (Forbids i) = accepted (barred i)
-said_asked (Refused r) = said_refusal r
+abbrev pub verdict_of : Option ℕ → Verdict
+verdict_of None = may
+verdict_of (Some i) = barred i
+
+abbrev pub said_asked : Result (Option ℕ) Refusal → Said Verdict
+said_asked = said verdict_of

@@ -10,13 +10,13 @@
 --                      that place is such a slot
 --     Sieved           no slot below `lowest` that has the start of a standing slot before place i is stale,
 --                      and `lowest` is stale, or 64
---     starts_for        the distance between the starts, by the row from a move's start; the mark for "no
+--     starts_for       the distance between the starts, by the row from a move's start; the mark for "no
 --                      walk" at a free slot, which then forbids nothing
---     pair_for          the pair of a slot and a move, by the rows from the move's start and from its goal
+--     pair_for         the pair of a slot and a move, by the rows from the move's start and from its goal
 --     OnRows           the ends of every slot have a place in a row
 --     TickFor          the smallest tick from a given one up that the pairs of all slots permit
 --     Blocking         the pair of a slot forbids the tick
---     LowestBlocking   the number of the lowest slot of which that holds, or 64 where there is none
+--     LowestBlocking   the number of the lowest slot of which that holds, if there is one
 --     Settled          what is asked of a book, a clock value and a network passes, whatever the move: 16,
 --                      14, the network's checks and 17
 --     Settles          so it does for the next call, at the same clock value on the same network, where an
@@ -26,14 +26,13 @@
 --     Called           the checks of a call, and the rows that they leave where none holds
 --     Riding           the moves of a trolley: the start ticks of those admitted stand in front of the list,
 --                      and the rest of it is as it came
-use Rattle.std.specs.Prelude.{◌≡◌, ◌≢◌, Bool, true, false, List, [], ◌∷◌, ◌++◌, ℕ, ◌≤◌, ◌<◌, length, get_or, drop, pos, ◌-ℤ◌}
-use Rattle.hall.specs.declared.Checked.{Checked}
-use Rattle.hall.specs.declared.Checked.TheVariants.{Sound}
+use Rattle.std.specs.Prelude.{◌≡◌, ◌≢◌, Bool, true, false, Option, Some, None, Result, Ok, List, [], ◌∷◌, ◌++◌, ℕ, ◌≤◌, ◌<◌, length, get_or, drop, pos, ◌-ℤ◌}
+use Rattle.hall.specs.declared.Refusal.{Refusal}
 use Rattle.hall.specs.Limits.{node_limit, no_walk_mark}
 use Rattle.hall.specs.Floor.{Dist, DistanceIs, Network, floor}
 use Rattle.hall.specs.Rule.{Pair, pair6, Forbidden}
 use Rattle.hall.specs.Ticks.{SmallestFrom, PermittedBy}
-use Rattle.hall.specs.Stages.{None}
+use Rattle.hall.specs.Stages.{None as NothingOf}
 use Rattle.hall.specs.Said.{Said, accepted, refused, Judged}
 use Rattle.hall.specs.Questions.{network_question, move_question}
 use Rattle.slots.specs.declared.Slot.{Slot}
@@ -41,6 +40,7 @@ use Rattle.slots.specs.declared.Book.{Book}
 use Rattle.slots.specs.Record.{slot_count, slot_is_free, slot_at, StandsAt}
 use Rattle.slots.specs.Questions.{book_question}
 use Rattle.admission.specs.declared.Entry.{Entry}
+use Rattle.admission.specs.declared.rows.Rows.{Rows}
 use Rattle.admission.specs.Questions.{stale_slots, call_question}
 use Rattle.admission.specs.Trolley.{Ending, Rides}
 
@@ -86,58 +86,59 @@ abbrev pub starts_for : Bool → ℕ → ℕ
 starts_for true d = no_walk_mark
 starts_for false d = d
 
-unfoldable pub pair_for : (outward inward : List ℕ) (own : ℕ) → Slot → Pair
-pair_for outward inward own c =
+unfoldable pub pair_for : (rows : Rows) (own : ℕ) → Slot → Pair
+pair_for rows own c =
     pair6
-    (starts_for (slot_is_free c) (get_or outward c.start 0))
-    (get_or inward c.goal 0)
+    (starts_for (slot_is_free c) (get_or rows.outward c.start 0))
+    (get_or rows.inward c.goal 0)
     c.distance
     own
-    (get_or inward c.start 0)
-    (get_or outward c.goal 0)
+    (get_or rows.inward c.start 0)
+    (get_or rows.outward c.goal 0)
 
 pub record OnRows (slots : List Slot) : Type 0 where
   pub starts : (i : ℕ) → i < slot_count → (slot_at slots i).start < node_limit
   pub goals : (i : ℕ) → i < slot_count → (slot_at slots i).goal < node_limit
 
-abbrev pub TickFor : (outward inward : List ℕ) (own w from : ℕ) → List Slot → ℕ → Type 0
-TickFor outward inward own w from slots =
+abbrev pub TickFor : (rows : Rows) (own w from : ℕ) → List Slot → ℕ → Type 0
+TickFor rows own w from slots =
     SmallestFrom from
-    (PermittedBy w slot_count (λ i. pair_for outward inward own (slot_at slots i)) (λ i. (slot_at slots i).tick))
+    (PermittedBy w slot_count (λ i. pair_for rows own (slot_at slots i)) (λ i. (slot_at slots i).tick))
 
 -- ---- may it go
 
-abbrev pub Blocking : (outward inward : List ℕ) (own w t : ℕ) → List Slot → ℕ → Type 0
-Blocking outward inward own w t slots i =
-    Forbidden w (pair_for outward inward own (slot_at slots i)) (pos t -ℤ pos (slot_at slots i).tick)
+abbrev pub Blocking : (rows : Rows) (own w t : ℕ) → List Slot → ℕ → Type 0
+Blocking rows own w t slots i =
+    Forbidden w (pair_for rows own (slot_at slots i)) (pos t -ℤ pos (slot_at slots i).tick)
 
-pub record LowestBlocking (outward inward : List ℕ) (own w t : ℕ) (slots : List Slot) (r : ℕ) : Type 0 where
-  pub most : r ≤ slot_count
-  pub blocking : r < slot_count → Blocking outward inward own w t slots r
-  pub none_before : (j : ℕ) → j < r → ¬ Blocking outward inward own w t slots j
+pub data LowestBlocking (rows : Rows) (own w t : ℕ) (slots : List Slot) : Option ℕ → Type 0 where
+  blocking : {i : ℕ} → i < slot_count → Blocking rows own w t slots i
+      → ((j : ℕ) → j < i → ¬ Blocking rows own w t slots j) → LowestBlocking rows own w t slots (Some i)
+  none_blocks : ((j : ℕ) → j < slot_count → ¬ Blocking rows own w t slots j)
+      → LowestBlocking rows own w t slots None
 
 -- ---- the checks
 
 pub record Settled (N : Network) (b : Book) (t : ℕ) : Type 0 where
-  pub of_book : None (book_question b t)
-  pub of_network : None (network_question N)
-  pub of_slots : None (stale_slots N b.dwell t b.slots ∷ [])
+  pub of_book : NothingOf (book_question b t)
+  pub of_network : NothingOf (network_question N)
+  pub of_slots : NothingOf (stale_slots N b.dwell t b.slots ∷ [])
 
 abbrev pub Settles : Network → (now : ℕ) → Said Entry → Book → Type 0
 Settles N now (accepted e) left = Settled N left now
 Settles N now (refused n p) left = Unit
 
-pub record RowsFrom (N : Network) (s g : ℕ) (outward inward : List ℕ) : Type 0 where
-  pub of_start : (v : ℕ) → v < N.nodes → DistanceIs (floor N) s v (get_or outward v 0)
-  pub of_goal : (v : ℕ) → v < N.nodes → DistanceIs (floor N) g v (get_or inward v 0)
+pub record RowsFrom (N : Network) (s g : ℕ) (rows : Rows) : Type 0 where
+  pub of_start : (v : ℕ) → v < N.nodes → DistanceIs (floor N) s v (get_or rows.outward v 0)
+  pub of_goal : (v : ℕ) → v < N.nodes → DistanceIs (floor N) g v (get_or rows.inward v 0)
 
-pub record Reached (N : Network) (s g : ℕ) (outward inward : List ℕ) (r : Checked) : Type 0 where
+pub record Reached (N : Network) (s g : ℕ) (left : Rows) (r : Result Unit Refusal) : Type 0 where
   pub judged : Judged (move_question N s g) r
-  pub rows : r ≡ Sound → RowsFrom N s g outward inward
+  pub rows : r ≡ Ok tt → RowsFrom N s g left
 
-pub record Called (N : Network) (b : Book) (t s g : ℕ) (outward inward : List ℕ) (r : Checked) : Type 0 where
+pub record Called (N : Network) (b : Book) (t s g : ℕ) (left : Rows) (r : Result Unit Refusal) : Type 0 where
   pub judged : Judged (call_question N b t s g) r
-  pub rows : r ≡ Sound → RowsFrom N s g outward inward
+  pub rows : r ≡ Ok tt → RowsFrom N s g left
 
 -- ---- the trolley
 

@@ -4,7 +4,7 @@
 --     Ending          how a trolley ended: all its moves were admitted; one was stopped, with its number in
 --                     the list and the number and the place of its refusal; or the trolley was refused whole,
 --                     with a number and a place, before any move
---     said_ended       what an `Ended` says
+--     said_ended       what the end of a trolley says
 --     PutTo k         move k is put to the book `held`: what is said, and the book that is left
 --     Admits k        the moves before k are moves of the list, and are admitted one after the other, each to
 --                     the book that the one before it left: their start ticks in the order of the moves, and
@@ -17,7 +17,7 @@
 --                     too after 9, and zeros in its first 64 places after 2. After any other end the list has
 --                     the start ticks of the moves admitted, at the places with their numbers, and zeros
 --                     behind them up to 64 places (rule 9.15). Beyond these it is always as it came
-use Rattle.std.specs.Prelude.{◌≡◌, List, [], ◌∷◌, ◌++◌, ℕ, zero, suc, ◌<◌, length}
+use Rattle.std.specs.Prelude.{◌≡◌, Result, Ok, Err, List, [], ◌∷◌, ◌++◌, ℕ, zero, suc, ◌<◌, length}
 use Rattle.hall.specs.Limits.{carrier_limit}
 use Rattle.hall.specs.Floor.{Network}
 use Rattle.hall.specs.Job.{move_count, start_in, goal_in}
@@ -28,8 +28,8 @@ use Rattle.hall.specs.Questions.{short_table, carriers_count}
 use Rattle.hall.specs.Said.{Said, accepted, refused}
 use Rattle.slots.specs.declared.Book.{Book}
 use Rattle.admission.specs.declared.Entry.{Entry}
-use Rattle.admission.specs.declared.trolley.Ended.{Ended}
-use Rattle.admission.specs.declared.trolley.Ended.TheVariants.{All, Stopped, Refused}
+use Rattle.admission.specs.declared.trolley.Stop.{Stop}
+use Rattle.admission.specs.declared.trolley.Stop.TheVariants.{Before, At}
 use Rattle.admission.specs.Admission.{Admission}
 
 pub data Ending : Type 0 where
@@ -37,10 +37,10 @@ pub data Ending : Type 0 where
   stopped : (move number place : ℕ) → Ending
   refused_whole : (number place : ℕ) → Ending
 
-abbrev pub said_ended : Ended → Ending
-said_ended All = all
-said_ended (Stopped k r) = stopped k (number_of r.fault) r.place
-said_ended (Refused r) = refused_whole (number_of r.fault) r.place
+abbrev pub said_ended : Result Unit Stop → Ending
+said_ended (Ok u) = all
+said_ended (Err (At k r)) = stopped k (number_of r.fault) r.place
+said_ended (Err (Before r)) = refused_whole (number_of r.fault) r.place
 
 abbrev pub trolley_counts : (moves ticks : List ℕ) → Question
 trolley_counts moves ticks =

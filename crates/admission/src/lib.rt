@@ -11,18 +11,20 @@
 
 pub mod ask;
 mod checks;
+mod rows;
 mod stale;
 mod tick;
 pub mod trolley;
 
-ghost use Rattle.std.specs.Prelude.{◌≡◌, true, ◌<◌, set};
-ghost use Rattle.hall.specs.Floor.{network_of};
+ghost use Rattle.std.specs.Prelude.{◌≡◌, true, ◌<◌, Ok, Err, set};
+ghost use Rattle.hall.specs.Floor.{network_in};
 ghost use Rattle.slots.specs.Record.{slot_count, book_with};
 ghost use Rattle.admission.specs.Admission.{Admission, said_answer};
 ghost use Rattle.admission.specs.Steps.{Settled, Settles};
 
 use crate::checks::check_known;
-use hall::{Checked, Fault, Job, Refusal};
+use crate::rows::Rows;
+use hall::{Ends, Fault, Network, Refusal};
 use slots::{Book, Slot, forget, lowest_free};
 
 // A carrier that is admitted: its start tick, and the slot that it takes.
@@ -32,27 +34,21 @@ pub struct Entry {
     pub slot: usize,
 }
 
-// What an admission answers: when the carrier starts and where it is held, or why it is refused.
-#[derive(Drop)]
-pub enum Answer {
-    Starts(Entry),
-    Refused(Refusal),
-}
-
-// The answer, and the book as it stands then.
+// What an admission answers, when the carrier starts and where it is held, or why it is refused; and the book
+// as it stands then.
 #[derive(Drop)]
 pub struct Stepped {
-    pub answer: Answer,
+    pub answer: Result<Entry, Refusal>,
     pub book: Book,
 }
 
 // The answer that refuses, with the book as it came.
 fn refusing(book: Book, refusal: Refusal) -> Stepped
-    ensures { result ≡ record { answer = Answer.Refused refusal; book = book } }
+    ensures { result ≡ record { answer = Err refusal; book = book } }
 {
     Stepped {
-        answer: Answer::Refused(refusal),
-        book: book,
+        answer: Err(refusal),
+        book,
     }
 }
 
@@ -66,19 +62,18 @@ fn entered(
 ) -> Stepped
     requires { place < slot_count }
     ensures { result ≡ record {
-      answer = Answer.Starts (record { tick = carrier.tick; slot = place });
+      answer = Ok (record { tick = carrier.tick; slot = place });
       book = book_with clock dwell (set slots place carrier);
     } }
 {
     let mut left = slots;
     left[place] = carrier;
-    let tick = carrier.tick;
     let entry = Entry {
-        tick: tick,
+        tick: carrier.tick,
         slot: place,
     };
     Stepped {
-        answer: Answer::Starts(entry),
+        answer: Ok(entry),
         book: Book::with_slots(clock, dwell, left),
     }
 }
@@ -90,72 +85,46 @@ pub(crate) fn admit_known(
     known: bool,
     book: Book,
     clock: u32,
-    nodes: usize,
-    lanes: &[u16],
-    closed: &[u16],
-    start: u16,
-    goal: u16,
+    network: &Network,
+    ends: Ends,
 ) -> Stepped
-    requires { known ≡ true → Settled (network_of nodes lanes.now closed.now) book clock }
+    requires { known ≡ true → Settled (network_in network.now) book clock }
     ensures { Admission
-        (network_of nodes lanes.now closed.now)
-        book clock start goal
+        (network_in network.now)
+        book clock ends.start ends.goal
         (said_answer result.answer) result.book
         × Settles
-        (network_of nodes lanes.now closed.now)
+        (network_in network.now)
         clock
         (said_answer result.answer) result.book }
 {
-    let mut outward: [u16; Job::NODES] = [0; Job::NODES];
-    let mut inward: [u16; Job::NODES] = [0; Job::NODES];
-    let checked = check_known(
-        known,
-        book,
-        clock,
-        nodes,
-        lanes,
-        closed,
-        start,
-        goal,
-        &mut outward,
-        &mut inward,
-    );
-    if let Checked::Refused(refusal) = checked {
+    let mut rows = Rows::blank();
+    let checked = check_known(known, &book, clock, network, ends, &mut rows);
+    if let Err(refusal) = checked {
         return refusing(book, refusal);
     }
-    let slots = book.slots;
     let dwell = book.dwell;
-    let left = forget(slots, dwell, clock);
-    let place = lowest_free(left);
-    if place >= Book::SLOTS {
+    let left = forget(&book, clock);
+    let Some(place) = lowest_free(left) else {
         return refusing(book, Refusal::new(Fault::NoSlot, 0));
-    }
-    let here = goal as usize;
-    let distance = outward[here];
-    let tick = tick::first_for(left, dwell, clock, distance, &outward, &inward) as u32;
+    };
+    let distance = rows.outward[ends.goal as usize];
+    let tick = tick::first_for(left, dwell, clock, distance, &rows) as u32;
     let carrier = Slot {
-        start: start,
-        goal: goal,
-        distance: distance,
-        tick: tick,
+        start: ends.start,
+        goal: ends.goal,
+        distance,
+        tick,
     };
     entered(clock, dwell, left, place, carrier)
 }
 
 // An admission of which nothing is known.
-pub fn admit_step(
-    book: Book,
-    clock: u32,
-    nodes: usize,
-    lanes: &[u16],
-    closed: &[u16],
-    start: u16,
-    goal: u16,
-) -> Stepped
+pub fn admit_step(book: Book, clock: u32, network: &Network, ends: Ends) -> Stepped
     ensures { Admission
-        (network_of nodes lanes.now closed.now)
-        book clock start goal
+        (network_in network.now)
+        book clock ends.start ends.goal
         (said_answer result.answer) result.book }
 {
-    admit_known(false, book, clock, nodes, lanes, closed, start, goal)
+    admit_known(false, book, clock, network, ends)
 }

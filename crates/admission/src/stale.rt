@@ -6,7 +6,7 @@
 // so there is one walk for each different start: the lowest slot with a start judges all that have it.
 ghost use Rattle.std.specs.Prelude.{[], ◌∷◌, ◌+◌, ◌≤◌, ◌<◌};
 ghost use Rattle.hall.specs.Limits.{node_limit};
-ghost use Rattle.hall.specs.Floor.{network_of};
+ghost use Rattle.hall.specs.Floor.{network_in};
 ghost use Rattle.hall.specs.Rule.{Answers};
 ghost use Rattle.hall.specs.Said.{Judged};
 ghost use Rattle.slots.specs.Record.{slot_count};
@@ -14,7 +14,7 @@ ghost use Rattle.slots.specs.Refusals.{SomeBadSlot};
 ghost use Rattle.admission.specs.Questions.{stale_slots};
 ghost use Rattle.admission.specs.Steps.{StandsFrom, StandsBefore, StaleBy, LowestBy, Sieved};
 
-use hall::{Checked, Fault, Job, Refusal};
+use hall::{Fault, Job, Network, Refusal};
 use slots::{Book, Slot, stands};
 
 // Whether a slot with this start holds a carrier whose last tick is t or later.
@@ -103,23 +103,14 @@ fn lowest_by(
 
 // One slot more: where it stands and none before it with its start does, all that stand and have its start
 // are judged by one walk from there.
-fn sieve(
-    nodes: usize,
-    lanes: &[u16],
-    closed: &[u16],
-    slots: [Slot; Book::SLOTS],
-    dwell: u32,
-    t: u32,
-    i: usize,
-    lowest: usize,
-) -> usize
-    requires { (nodes ≤ node_limit) × (i < lowest) × (¬ SomeBadSlot slots)
-        × Sieved (network_of nodes lanes.now closed.now) dwell t slots i lowest }
-    ensures { Sieved
-        (network_of nodes lanes.now closed.now)
-        dwell t slots (i + 1) result }
+fn sieve(network: &Network, book: &Book, t: u32, i: usize, lowest: usize) -> usize
+    requires { (network.now.nodes ≤ node_limit) × (i < lowest) × (¬ SomeBadSlot book.now.slots)
+        × Sieved (network_in network.now) book.now.dwell t book.now.slots i lowest }
+    ensures { Sieved (network_in network.now) book.now.dwell t book.now.slots (i + 1) result }
 {
     let mut row: [u16; Job::NODES] = [0; Job::NODES];
+    let slots = book.slots;
+    let dwell = book.dwell;
     let slot = slots[i];
     let start = slot.start;
     if !stands(slot, dwell, t) {
@@ -128,32 +119,25 @@ fn sieve(
     if judged_before(slots, start, dwell, t, i) {
         return lowest;
     }
-    let served = walk::distances(nodes, lanes, closed, start, &mut row);
-    lowest_by(nodes, served, &row, start, slots, dwell, t, i, lowest)
+    let served = walk::distances(network, start, &mut row);
+    lowest_by(network.nodes, served, &row, start, slots, dwell, t, i, lowest)
 }
 
 // 17, at the lowest slot. The loop ends when all slots below the lowest stale one that was found are judged.
-pub(crate) fn check_held(
-    nodes: usize,
-    lanes: &[u16],
-    closed: &[u16],
-    slots: [Slot; Book::SLOTS],
-    dwell: u32,
-    t: u32,
-) -> Checked
-    requires { (nodes ≤ node_limit) × (¬ SomeBadSlot slots) }
+pub(crate) fn check_held(network: &Network, book: &Book, t: u32) -> Result<(), Refusal>
+    requires { (network.now.nodes ≤ node_limit) × (¬ SomeBadSlot book.now.slots) }
     ensures { Judged
-        (stale_slots (network_of nodes lanes.now closed.now) dwell t slots ∷ [])
+        (stale_slots (network_in network.now) book.now.dwell t book.now.slots ∷ [])
         result }
 {
     let mut lowest: usize = Book::SLOTS;
     let mut i: usize = 0;
     while i < lowest {
-        lowest = sieve(nodes, lanes, closed, slots, dwell, t, i, lowest);
+        lowest = sieve(network, book, t, i, lowest);
         i += 1;
     }
     if lowest < Book::SLOTS {
-        return Checked::Refused(Refusal::new(Fault::StaleSlot, lowest));
+        return Err(Refusal::new(Fault::StaleSlot, lowest));
     }
-    Checked::Sound
+    Ok(())
 }

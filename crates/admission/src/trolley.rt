@@ -6,29 +6,28 @@
 // the carriers held before it are looked at once. Then each move takes two distance walks. Working memory:
 // that of one admission.
 ghost use Rattle.std.specs.Prelude.{◌≤◌, length};
-ghost use Rattle.hall.specs.Floor.{network_of};
+ghost use Rattle.hall.specs.Floor.{network_in};
 ghost use Rattle.hall.specs.Job.{move_count};
 ghost use Rattle.admission.specs.Trolley.{said_ended, Ride};
 ghost use Rattle.admission.specs.Steps.{Riding};
 
-use crate::{Answer, admit_known};
-use hall::zero::zero_ticks;
-use hall::{Fault, Job, Refusal};
+use crate::admit_known;
+use hall::zero::fill_first;
+use hall::{Ends, Fault, Job, Network, Refusal};
 use slots::Book;
 
-// How a trolley ended: all its moves were admitted, or all before the one with this number, which was
-// refused; or the trolley was refused before any move.
+// Why a trolley ended before all its moves were admitted: it was refused before any move, or all moves before
+// the one with this number were admitted, and that one was refused.
 #[derive(Drop)]
-pub enum Ended {
-    All,
-    Stopped(usize, Refusal),
-    Refused(Refusal),
+pub enum Stop {
+    Before(Refusal),
+    At(usize, Refusal),
 }
 
 // How it ended, and the book as it stands then.
 #[derive(Drop)]
 pub struct Rode {
-    pub ended: Ended,
+    pub ended: Result<(), Stop>,
     pub book: Book,
 }
 
@@ -36,45 +35,41 @@ pub struct Rode {
 fn ride_moves(
     book: Book,
     clock: u32,
-    nodes: usize,
-    lanes: &[u16],
-    closed: &[u16],
+    network: &Network,
     moves: &[u16],
     ticks: &mut [u32],
 ) -> Rode
     requires { move_count moves.now ≤ length ticks.old }
     ensures { Riding
-        (network_of nodes lanes.now closed.now)
+        (network_in network.now)
         book clock
         moves.now ticks.old
         (said_ended result.ended) result.book ticks.new }
 {
     let count = moves.len() / 2;
     let mut held = book;
-    let mut k: usize = 0;
-    while k < count {
-        let start = moves[2 * k];
-        let goal = moves[2 * k + 1];
+    for k in 0..count {
+        let ends = Ends {
+            start: moves[2 * k],
+            goal: moves[2 * k + 1],
+        };
         let known = k > 0;
-        let done = admit_known(known, held, clock, nodes, lanes, closed, start, goal);
-        let left = done.book;
-        let answer = done.answer;
-        match answer {
-            Answer::Starts(entry) => {
+        let done = admit_known(known, held, clock, network, ends);
+        held = done.book;
+        match done.answer {
+            Ok(entry) => {
                 ticks[k] = entry.tick;
             }
-            Answer::Refused(refusal) => {
+            Err(refusal) => {
                 return Rode {
-                    ended: Ended::Stopped(k, refusal),
-                    book: left,
+                    ended: Err(Stop::At(k, refusal)),
+                    book: held,
                 };
             }
         }
-        held = left;
-        k += 1;
     }
     Rode {
-        ended: Ended::All,
+        ended: Ok(()),
         book: held,
     }
 }
@@ -84,32 +79,28 @@ fn ride_moves(
 pub fn ride(
     book: Book,
     clock: u32,
-    nodes: usize,
-    lanes: &[u16],
-    closed: &[u16],
+    network: &Network,
     moves: &[u16],
     ticks: &mut [u32],
 ) -> Rode
     ensures { Ride
-        (network_of nodes lanes.now closed.now)
+        (network_in network.now)
         book clock
         moves.now ticks.old
         (said_ended result.ended) result.book ticks.new }
 {
-    let room = ticks.len();
-    let count = moves.len() / 2;
-    if room < Job::CARRIERS {
+    if ticks.len() < Job::CARRIERS {
         return Rode {
-            ended: Ended::Refused(Refusal::new(Fault::ShortTable, 0)),
-            book: book,
+            ended: Err(Stop::Before(Refusal::new(Fault::ShortTable, 0))),
+            book,
         };
     }
-    zero_ticks(ticks);
-    if count > Job::CARRIERS {
+    fill_first(ticks, Job::CARRIERS, 0);
+    if moves.len() / 2 > Job::CARRIERS {
         return Rode {
-            ended: Ended::Refused(Refusal::new(Fault::BadCount, 2)),
-            book: book,
+            ended: Err(Stop::Before(Refusal::new(Fault::BadCount, 2))),
+            book,
         };
     }
-    ride_moves(book, clock, nodes, lanes, closed, moves, ticks)
+    ride_moves(book, clock, network, moves, ticks)
 }

@@ -1,14 +1,15 @@
 -- One answer fits each promise of the record. A yes or no that tells of a statement is the only one, there is
 -- one lowest free slot, and a question has one first fault. The other promises are equations of the result.
 -- Assumes nothing.
-use mathlib.Core.Path.{◌≡◌, sym, ◌∙◌}
+use mathlib.Core.Path.{◌≡◌, refl, ap}
 use mathlib.Core.Bool.{Bool}
 use mathlib.Core.List.{List}
 use Prim.Native.Nat.{ℕ, ◌≤◌, ◌<◌}
 use native.Mathlib.Nat.{le_antisymm}
 use native.Mathlib.Decide.{dec_lt}
 use native.Mathlib.Omega.{arith}
-use Rattle.hall.specs.declared.Checked.{Checked}
+use Rattle.std.specs.Prelude.{Option, Some, None, Result}
+use Rattle.hall.specs.declared.Refusal.{Refusal}
 use Rattle.hall.specs.Rule.{Answers}
 use Rattle.hall.specs.Said.{Judged}
 use Rattle.hall.proofs.Answers.{answers_unique}
@@ -33,12 +34,12 @@ lowest_once {i = i} {j = j} a c = le_antisymm (below (dec_lt j i)) (above (dec_l
     above (yes l) = absurd (c.lowest i l a.is_free)
     above (no l) = omega arith
 
-pub lowest_free_unique : (slots : List Slot) {r r' : ℕ} → AsFree slots r → AsFree slots r' → r ≡ r'
-lowest_free_unique slots (found a) (found c) = lowest_once a c
-lowest_free_unique slots {r} (found a) (none_free e none) = absurd (none r a.inside a.is_free)
-lowest_free_unique slots {r} {r'} (none_free e none) (found c) = absurd (none r' c.inside c.is_free)
-lowest_free_unique slots (none_free e none) (none_free e' none') = e ∙ sym e'
+pub lowest_free_unique : (slots : List Slot) {r r' : Option ℕ} → AsFree slots r → AsFree slots r' → r ≡ r'
+lowest_free_unique slots (found a) (found c) = ap Some (lowest_once a c)
+lowest_free_unique slots (found {i} a) (none_free none) = absurd (none i a.inside a.is_free)
+lowest_free_unique slots (none_free none) (found {i} c) = absurd (none i c.inside c.is_free)
+lowest_free_unique slots (none_free none) (none_free none') = refl
 
-pub check_book_unique : (b : Book) (t : ℕ) (c d : Checked) →
+pub check_book_unique : (b : Book) (t : ℕ) (c d : Result Unit Refusal) →
     Judged (book_question b t) c → Judged (book_question b t) d → c ≡ d
 check_book_unique b t = judged_unique (book_question b t)

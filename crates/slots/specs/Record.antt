@@ -14,8 +14,8 @@
 --     forgotten       a slot after forgetting: free if its carrier's last tick is before now (rule 13.5)
 --     forgetting      the same of every slot
 --     LowestFree      the lowest free slot (rule 13.6)
---     AsFree          the number of the lowest free slot, or 64 where none is free
-use Rattle.std.specs.Prelude.{◌≡◌, ◌≢◌, Bool, true, false, List, map, ℕ, ◌+◌, ◌≤◌, ◌<◌, ltb, eqb, length, get_or, replicate}
+--     AsFree          the number of the lowest free slot, if some slot is free
+use Rattle.std.specs.Prelude.{◌≡◌, ◌≢◌, Bool, true, false, Option, Some, None, List, map, ℕ, ◌+◌, ◌≤◌, ◌<◌, ltb, eqb, length, get_or, replicate}
 use Rattle.slots.specs.declared.Slot.{Slot}
 use Rattle.slots.specs.declared.Book.{Book}
 
@@ -78,6 +78,6 @@ pub record LowestFree (slots : List Slot) (i : ℕ) : Type 0 where
   pub is_free : slot_at slots i ≡ free
   pub lowest : (j : ℕ) → j < i → slot_at slots j ≢ free
 
-pub data AsFree (slots : List Slot) (r : ℕ) : Type 0 where
-  found : LowestFree slots r → AsFree slots r
-  none_free : r ≡ slot_count → ((j : ℕ) → j < slot_count → slot_at slots j ≢ free) → AsFree slots r
+pub data AsFree (slots : List Slot) : Option ℕ → Type 0 where
+  found : {i : ℕ} → LowestFree slots i → AsFree slots (Some i)
+  none_free : ((j : ℕ) → j < slot_count → slot_at slots j ≢ free) → AsFree slots None

@@ -8,18 +8,18 @@
 // there and nowhere else.
 #![tactic(auto)]
 
-ghost use Rattle.std.specs.Prelude.{◌≡◌, length};
+ghost use Rattle.std.specs.Prelude.{◌≡◌};
 ghost use Rattle.hall.specs.Rule.{Answers};
 ghost use Rattle.hall.specs.Said.{Judged};
-ghost use Rattle.slots.specs.Record.{slot_count, slot_is_free, last_tick, StandsAt};
+ghost use Rattle.slots.specs.Record.{slot_is_free, last_tick, StandsAt};
 ghost use Rattle.slots.specs.Record.{book_with, empty_book, forgotten, forgetting, AsFree};
 ghost use Rattle.slots.specs.Refusals.{BadHeld, SomeBadSlot, Damaged};
 ghost use Rattle.slots.specs.Questions.{book_question};
 
-use hall::{Checked, Fault, Job, Refusal};
+use hall::{Fault, Job, Refusal};
 
 // A carrier held: its start, goal, distance and start tick. All zero means free, and nothing else does.
-#[derive(Clone, Copy)]
+#[derive(Clone, Copy, PartialEq, Eq)]
 pub struct Slot {
     pub start: u16,
     pub goal: u16,
@@ -62,9 +62,9 @@ impl Book {
         ensures { result ≡ book_with clock dwell slots }
     {
         Book {
-            clock: clock,
-            dwell: dwell,
-            slots: slots,
+            clock,
+            dwell,
+            slots,
         }
     }
 
@@ -83,9 +83,7 @@ impl Book {
 pub fn is_free(slot: Slot) -> bool
     ensures { result ≡ slot_is_free slot }
 {
-    let ends = slot.start as u64 + slot.goal as u64;
-    let rest = slot.distance as u64 + slot.tick as u64;
-    ends + rest == 0
+    slot == Slot::free()
 }
 
 // The last tick at which the carrier of a slot is on the floor: 34 bits hold it, whatever the slot holds.
@@ -147,49 +145,29 @@ fn kept(slot: Slot, dwell: u32, clock: u32) -> Slot
 
 // ---- all slots
 
-// The slots, where each carrier whose last tick is before the clock value is forgotten. That there are 64 of
-// them is said here, since a function that takes the whole record does not see it.
-pub fn forget(slots: [Slot; Book::SLOTS], dwell: u32, clock: u32) -> [Slot; Book::SLOTS]
-    ensures { (result ≡ forgetting dwell clock slots) × (length slots ≡ slot_count) }
+// The slots of a book, where each carrier whose last tick is before the clock value is forgotten.
+pub fn forget(book: &Book, clock: u32) -> [Slot; Book::SLOTS]
+    ensures { result ≡ forgetting book.now.dwell clock book.now.slots }
 {
-    let mut left = slots;
-    let mut i: usize = 0;
-    while i < Book::SLOTS {
-        let slot = left[i];
-        left[i] = kept(slot, dwell, clock);
-        i += 1;
+    let mut left = book.slots;
+    for slot in &mut left {
+        *slot = kept(*slot, book.dwell, clock);
     }
     left
 }
 
-// The lowest free slot, 64 if there is none.
-pub fn lowest_free(slots: [Slot; Book::SLOTS]) -> usize
+// The lowest free slot, if there is one.
+pub fn lowest_free(slots: [Slot; Book::SLOTS]) -> Option<usize>
     ensures { AsFree slots result }
 {
-    let mut place: usize = 0;
-    while place < Book::SLOTS {
-        let slot = slots[place];
-        if is_free(slot) {
-            return place;
-        }
-        place += 1;
-    }
-    Book::SLOTS
+    slots.iter().position(|slot| is_free(*slot))
 }
 
 // Whether some carrier held has numbers that none can have.
 fn bad_slots(slots: [Slot; Book::SLOTS]) -> bool
     ensures { Answers result (SomeBadSlot slots) }
 {
-    let mut i: usize = 0;
-    while i < Book::SLOTS {
-        let slot = slots[i];
-        if bad_slot(slot) {
-            return true;
-        }
-        i += 1;
-    }
-    false
+    slots.iter().any(|slot| bad_slot(*slot))
 }
 
 // ---- the record
@@ -209,17 +187,17 @@ fn damaged(book: Book) -> bool
 }
 
 // 16, then 14: the record, and the clock value t.
-pub fn check_book(book: Book, t: u32) -> Checked
+pub fn check_book(book: Book, t: u32) -> Result<(), Refusal>
     ensures { Judged (book_question book t) result }
 {
     if damaged(book) {
-        return Checked::Refused(Refusal::new(Fault::BadBook, 0));
+        return Err(Refusal::new(Fault::BadBook, 0));
     }
     if t < book.clock {
-        return Checked::Refused(Refusal::new(Fault::BadClock, 0));
+        return Err(Refusal::new(Fault::BadClock, 0));
     }
     if t > Book::LAST_CLOCK {
-        return Checked::Refused(Refusal::new(Fault::BadClock, 0));
+        return Err(Refusal::new(Fault::BadClock, 0));
     }
-    Checked::Sound
+    Ok(())
 }
