@@ -1,63 +1,62 @@
 -- From slots to the list that the rule's search takes. The list fills up place by place, as in the crate
 -- ticks: one more slot written at the next place leaves the earlier ones. A filled list permits what the
 -- pairs of all slots permit. Assumes nothing.
---     held_room      room for 64 carriers, seven numbers each
 --     GatheredTo    the first n places hold the first n slots
-use mathlib.Core.Path.{◌≡◌, ◌∙◌, subst}
+use mathlib.Core.Path.{◌≡◌, sym, ◌∙◌, ap, subst}
 use mathlib.Core.List.{List}
-use Prim.Native.Nat.{ℕ, ◌+◌, ◌*◌, ◌/◌, ◌≤◌, ◌<◌}
+use Prim.Native.Nat.{ℕ, ◌+◌, ◌≤◌, ◌<◌}
 use native.Mathlib.Nat.{not-suc-le-zero}
 use native.Mathlib.Decide.{dec_lt}
 use native.Mathlib.Omega.{arith}
-use lib.ListN.{length}
+use lib.ListN.{length, set}
 use Rattle.hall.specs.Ticks.{SmallestFrom, PermittedBy}
-use Rattle.rule.specs.Held.{held_tick, held_pair, held_with}
+use Rattle.rule.specs.declared.Held.{Held}
+use Rattle.rule.specs.declared.Pair.{Pair as Six}
+use Rattle.rule.specs.Held.{pair_in, held_tick, held_pair, held_with}
 use Rattle.rule.proofs.Carry.{smallest_same}
-use Rattle.rule.proofs.Held.{held_length, held_tick_lem, held_pair_lem, earlier_tick, earlier_pair}
+use Rattle.rule.proofs.Holding.{held_length, held_tick_lem, held_pair_lem, earlier_tick, earlier_pair}
 use Rattle.slots.specs.declared.Slot.{Slot}
 use Rattle.slots.specs.Record.{slot_count, slot_at}
+use Rattle.admission.specs.declared.rows.Rows.{Rows}
 use Rattle.admission.specs.Steps.{pair_for, TickFor}
 
-abbrev pub held_room : ℕ
-held_room = 448
-
-module _ (outward inward : List ℕ) (own : ℕ) (slots : List Slot) where
-  pub record GatheredTo (held : List ℕ) (n : ℕ) : Type 0 where
-    pub size : length held ≡ held_room
+module _ (rows : Rows) (own : ℕ) (slots : List Slot) where
+  pub record GatheredTo (held : List Held) (n : ℕ) : Type 0 where
+    pub size : length held ≡ slot_count
     pub ticks : (p : ℕ) → p < n → held_tick held p ≡ (slot_at slots p).tick
-    pub pairs : (p : ℕ) → p < n → held_pair held p ≡ pair_for outward inward own (slot_at slots p)
+    pub pairs : (p : ℕ) → p < n → held_pair held p ≡ pair_for rows own (slot_at slots p)
 
-  module _ (held : List ℕ) (n : ℕ) (l : n < slot_count) (g : GatheredTo held n) where
-    abbrev next : List ℕ
-    next = held_with held n (slot_at slots n).tick (pair_for outward inward own (slot_at slots n))
+  module _ (held : List Held) (n : ℕ) (l : n < slot_count) (g : GatheredTo held n) where
+    abbrev next : List Held
+    next = held_with held n (slot_at slots n).tick (pair_for rows own (slot_at slots n))
 
-    fits : 7 * n + 7 ≤ length held
+    fits : n < length held
     fits = omega (arith, g.size)
 
     next_tick : (p : ℕ) → p < n + 1 → Dec (p < n) → held_tick next p ≡ (slot_at slots p).tick
     next_tick p h (yes k) = earlier_tick held n _ _ p k ∙ g.ticks p k
     next_tick p h (no k) = let e : p ≡ n = omega arith in rw e (held_tick_lem held n _ _ fits)
 
-    next_pair : (p : ℕ) → p < n + 1 → Dec (p < n) → held_pair next p ≡ pair_for outward inward own (slot_at slots p)
+    next_pair : (p : ℕ) → p < n + 1 → Dec (p < n) → held_pair next p ≡ pair_for rows own (slot_at slots p)
     next_pair p h (yes k) = earlier_pair held n _ _ p k ∙ g.pairs p k
     next_pair p h (no k) = let e : p ≡ n = omega arith in rw e (held_pair_lem held n _ _ fits)
 
-    pub gathered_more : (held' : List ℕ) → held' ≡ next → GatheredTo held' (n + 1)
-    gathered_more held' e = rw e (record {
+    -- one slot more, with its pair
+    pub gathered_more : {pair : Six} → pair_in pair ≡ pair_for rows own (slot_at slots n)
+        → GatheredTo (set held n (record { tick = (slot_at slots n).tick; pair = pair })) (n + 1)
+    unfolding held_with
+    gathered_more {pair} e = subst (λ (h : List Held). GatheredTo h (n + 1)) (ap (held_with held n (slot_at slots n).tick) (sym e)) (record {
       size = held_length held n _ _ ∙ g.size;
       ticks = λ p h. next_tick p h (dec_lt p n);
       pairs = λ p h. next_pair p h (dec_lt p n);
     })
 
-  pub gathered_none : (held : List ℕ) → length held ≡ held_room → GatheredTo held 0
+  pub gathered_none : (held : List Held) → length held ≡ slot_count → GatheredTo held 0
   gathered_none held e = record { size = e; ticks = λ p h. absurd (not-suc-le-zero h); pairs = λ p h. absurd (not-suc-le-zero h) }
 
-  pub gathered_smallest : (held : List ℕ) (w : ℕ) {from x : ℕ} → GatheredTo held slot_count
-      → SmallestFrom from (PermittedBy w (length held / 7) (held_pair held) (held_tick held)) x → TickFor outward inward own w from slots x
+  pub gathered_smallest : (held : List Held) (w : ℕ) {from x : ℕ} → GatheredTo held slot_count
+      → SmallestFrom from (PermittedBy w (length held) (held_pair held) (held_tick held)) x → TickFor rows own w from slots x
   gathered_smallest held w {from} {x} g s =
-      smallest_same w slot_count (held_pair held) (λ i. pair_for outward inward own (slot_at slots i)) (held_tick held) (λ i. (slot_at slots i).tick)
+      smallest_same w slot_count (held_pair held) (λ i. pair_for rows own (slot_at slots i)) (held_tick held) (λ i. (slot_at slots i).tick)
       g.pairs g.ticks
-      (subst (λ (n : ℕ). SmallestFrom from (PermittedBy w n (held_pair held) (held_tick held)) x) count s)
-    where
-      count : length held / 7 ≡ slot_count
-      count = omega (arith, g.size)
+      (subst (λ (n : ℕ). SmallestFrom from (PermittedBy w n (held_pair held) (held_tick held)) x) g.size s)

@@ -4,34 +4,26 @@
 // put back the record that the step answers. Nothing is decided here.
 #![tactic(auto)]
 
-ghost use Rattle.hall.specs.Floor.{network_of};
+ghost use Rattle.hall.specs.Floor.{network_in};
 ghost use Rattle.admission.specs.Admission.{Admission, said_answer};
 ghost use Rattle.admission.specs.Trolley.{said_ended, Ride};
 ghost use Rattle.admission.specs.Asking.{Asking, said_asked};
 
-use admission::ask::{Asked, ask_step};
-use admission::trolley::{Ended, ride};
-use admission::{Answer, admit_step};
+use admission::ask::ask_step;
+use admission::trolley::{Stop, ride};
+use admission::{Entry, admit_step};
+use hall::{Ends, Network, Refusal};
 use slots::Book;
 
 // An admission at the clock value `clock`, which the rules call now (in a contract `now` is what is lent):
 // the start tick and the slot, or the refusal, which leaves the book as it came.
-pub fn admit(
-    book: &mut Book,
-    clock: u32,
-    nodes: usize,
-    lanes: &[u16],
-    closed: &[u16],
-    start: u16,
-    goal: u16,
-) -> Answer
+pub fn admit(book: &mut Book, clock: u32, network: &Network, ends: Ends) -> Result<Entry, Refusal>
     ensures { Admission
-        (network_of nodes lanes.now closed.now)
-        book.old clock start goal
+        (network_in network.now)
+        book.old clock ends.start ends.goal
         (said_answer result) book.new }
 {
-    let held = *book;
-    let done = admit_step(held, clock, nodes, lanes, closed, start, goal);
+    let done = admit_step(*book, clock, network, ends);
     *book = done.book;
     done.answer
 }
@@ -42,39 +34,32 @@ pub fn admit(
 pub fn admit_all(
     book: &mut Book,
     clock: u32,
-    nodes: usize,
-    lanes: &[u16],
-    closed: &[u16],
+    network: &Network,
     moves: &[u16],
     ticks: &mut [u32],
-) -> Ended
+) -> Result<(), Stop>
     ensures { Ride
-        (network_of nodes lanes.now closed.now)
+        (network_in network.now)
         book.old clock
         moves.now ticks.old
         (said_ended result) book.new ticks.new }
 {
-    let held = *book;
-    let rode = ride(held, clock, nodes, lanes, closed, moves, ticks);
+    let rode = ride(*book, clock, network, moves, ticks);
     *book = rode.book;
     rode.ended
 }
 
-// Whether a move may start at the tick t: yes, or the lowest slot that forbids it. Nothing is changed.
+// Whether a move may start at the tick t: the lowest slot that forbids it, if one does. Nothing is changed.
 pub fn may_start(
     book: &Book,
     t: u32,
-    nodes: usize,
-    lanes: &[u16],
-    closed: &[u16],
-    start: u16,
-    goal: u16,
-) -> Asked
+    network: &Network,
+    ends: Ends,
+) -> Result<Option<usize>, Refusal>
     ensures { Asking
-        (network_of nodes lanes.now closed.now)
-        book.now t start goal
+        (network_in network.now)
+        book.now t ends.start ends.goal
         (said_asked result) }
 {
-    let held = *book;
-    ask_step(held, t, nodes, lanes, closed, start, goal)
+    ask_step(*book, t, network, ends)
 }

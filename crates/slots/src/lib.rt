@@ -160,7 +160,12 @@ pub fn forget(book: &Book, clock: u32) -> [Slot; Book::SLOTS]
 pub fn lowest_free(slots: [Slot; Book::SLOTS]) -> Option<usize>
     ensures { AsFree slots result }
 {
-    slots.iter().position(|slot| is_free(*slot))
+    for place in 0..Book::SLOTS {
+        if is_free(slots[place]) {
+            return Some(place);
+        }
+    }
+    None
 }
 
 // Whether some carrier held has numbers that none can have.

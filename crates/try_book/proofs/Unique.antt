@@ -11,7 +11,8 @@ use Rattle.admission.specs.declared.Stepped.{Stepped}
 use Rattle.admission.specs.declared.trolley.Rode.{Rode}
 use Rattle.admission.specs.Admission.{Admission, said_answer}
 use Rattle.admission.specs.Trolley.{said_ended, Ride}
-use Rattle.admission.specs.declared.ask.Asked.{Asked}
+use Rattle.std.specs.Prelude.{Option, Result}
+use Rattle.hall.specs.declared.Refusal.{Refusal}
 use Rattle.admission.specs.Asking.{Asking, said_asked}
 use Rattle.admission.proofs.Asking.{asked_unique}
 use Rattle.admission.proofs.Unique.{answer_unique}
@@ -32,6 +33,6 @@ admit_all_lent_unique N b now moves ticks r r' x y =
     let e = ended_unique N b now moves ticks r.ended r'.ended x y in
     ((λ i. record { ended = e.0 i; book = e.1 i }), e.2)
 
-pub may_start_lent_unique : (N : Network) {b : Book} {t s g : ℕ} (r r' : Asked)
+pub may_start_lent_unique : (N : Network) {b : Book} {t s g : ℕ} (r r' : Result (Option ℕ) Refusal)
     → Asking N b t s g (said_asked r) → Asking N b t s g (said_asked r') → r ≡ r'
 may_start_lent_unique N = asked_unique N

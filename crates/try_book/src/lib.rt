@@ -8,36 +8,28 @@
 // decided here.
 #![tactic(auto)]
 
-ghost use Rattle.hall.specs.Floor.{network_of};
+ghost use Rattle.hall.specs.Floor.{network_in};
 ghost use Rattle.admission.specs.Admission.{Admission, said_answer};
 ghost use Rattle.admission.specs.Trolley.{said_ended, Ride};
 ghost use Rattle.admission.specs.Asking.{Asking, said_asked};
 
 use admission::Stepped;
-use admission::ask::Asked;
 use admission::trolley::Rode;
 use book::{admit, admit_all, may_start};
+use hall::{Ends, Network, Refusal};
 use slots::Book;
 
 // `book::admit` with the book lent.
-pub fn admit_lent(
-    book: Book,
-    clock: u32,
-    nodes: usize,
-    lanes: &[u16],
-    closed: &[u16],
-    start: u16,
-    goal: u16,
-) -> Stepped
+pub fn admit_lent(book: Book, clock: u32, network: &Network, ends: Ends) -> Stepped
     ensures { Admission
-        (network_of nodes lanes.now closed.now)
-        book clock start goal
+        (network_in network.now)
+        book clock ends.start ends.goal
         (said_answer result.answer) result.book }
 {
     let mut lent = book;
-    let answer = admit(&mut lent, clock, nodes, lanes, closed, start, goal);
+    let answer = admit(&mut lent, clock, network, ends);
     Stepped {
-        answer: answer,
+        answer,
         book: lent,
     }
 }
@@ -46,22 +38,20 @@ pub fn admit_lent(
 pub fn admit_all_lent(
     book: Book,
     clock: u32,
-    nodes: usize,
-    lanes: &[u16],
-    closed: &[u16],
+    network: &Network,
     moves: &[u16],
     ticks: &mut [u32],
 ) -> Rode
     ensures { Ride
-        (network_of nodes lanes.now closed.now)
+        (network_in network.now)
         book clock
         moves.now ticks.old
         (said_ended result.ended) result.book ticks.new }
 {
     let mut lent = book;
-    let ended = admit_all(&mut lent, clock, nodes, lanes, closed, moves, ticks);
+    let ended = admit_all(&mut lent, clock, network, moves, ticks);
     Rode {
-        ended: ended,
+        ended,
         book: lent,
     }
 }
@@ -70,16 +60,13 @@ pub fn admit_all_lent(
 pub fn may_start_lent(
     book: Book,
     t: u32,
-    nodes: usize,
-    lanes: &[u16],
-    closed: &[u16],
-    start: u16,
-    goal: u16,
-) -> Asked
+    network: &Network,
+    ends: Ends,
+) -> Result<Option<usize>, Refusal>
     ensures { Asking
-        (network_of nodes lanes.now closed.now)
-        book t start goal
+        (network_in network.now)
+        book t ends.start ends.goal
         (said_asked result) }
 {
-    may_start(&book, t, nodes, lanes, closed, start, goal)
+    may_start(&book, t, network, ends)
 }

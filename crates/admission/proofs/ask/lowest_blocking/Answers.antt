@@ -2,24 +2,17 @@
 -- that does, and after all 64 there is none. Assumes nothing.
 use Rattle.std.proofs.Common.{below_more, arith}
 use Rattle.hall.proofs.Answers.{affirmed, denied}
+use Rattle.admission.specs.Steps.{blocking, none_blocks}
 use Rattle.admission.proofs.ask.lowest_blocking.Goals as goal
 
 pub loop-i-init : goal.loop-i-init
 loop-i-init c j l = omega arith
 
 pub returns-then-blocks : goal.returns-then-blocks
-returns-then-blocks c = record {
-  most = omega arith;
-  blocking = λ l. affirmed _ c.if-blocks.true c.blocks-in-loop-i.ensures;
-  none_before = c.loop-i.invariant;
-}
+returns-then-blocks c = blocking (omega arith) (affirmed _ c.if-blocks.true c.blocks.ensures) c.loop-i.invariant
 
 pub loop-i-preserved : goal.loop-i-preserved
-loop-i-preserved c = below_more _ _ c.loop-i.invariant (denied _ c.if-blocks.false c.blocks-in-loop-i.ensures)
+loop-i-preserved c = below_more _ _ c.loop-i.invariant (denied _ c.if-blocks.false c.blocks.ensures)
 
 pub returns : goal.returns
-returns c = record {
-  most = omega arith;
-  blocking = λ l. absurd (let x : ⊥ = omega arith in x);
-  none_before = λ j l. c.loop-i.invariant j (omega arith);
-}
+returns c = none_blocks (λ j l. c.loop-i.invariant j (omega arith))

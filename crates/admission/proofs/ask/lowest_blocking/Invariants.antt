@@ -1,11 +1,7 @@
--- The loop of `admission::ask::lowest_blocking`: no slot before place i blocks. The measure is how many are
--- left.
-use Rattle.std.proofs.Common.{ℕ, ◌-◌, ◌<◌}
+-- The loop of `admission::ask::lowest_blocking`: no slot before place i blocks.
+use Rattle.std.proofs.Common.{ℕ, ◌<◌}
 use Rattle.admission.specs.Steps.{Blocking}
 use Rattle.admission.proofs.ask.lowest_blocking.Given as goal
 
 abbrev pub invariant-loop-i : goal.invariant-loop-i
-invariant-loop-i l = (j : ℕ) → j < l.i → ¬ Blocking l.outward l.inward l.own l.dwell l.t l.slots j
-
-abbrev pub decreases-loop-i : goal.decreases-loop-i
-decreases-loop-i l = 64 - l.i
+invariant-loop-i l = (j : ℕ) → j < l.i → ¬ Blocking l.rows l.own l.dwell l.t l.slots j
