@@ -1,12 +1,11 @@
 -- One section more: what holds behind a section that was read, or that is missing. A step hands on what holds
--- before it to what holds behind it; a refusal stays. Assumes nothing.
+-- before it to what holds behind it, or refuses the text. Assumes nothing.
 --     stood_behind     the form leads behind a section that was read
 --     few_counted      its count is at most the greatest
 --     stood_past       the form leads past a section that is missing
 --     not_missing      a section that must stand is not missing
---     After text P p   P holds of the counts and the place of p, or p is the refusal that the form gives the
---                      text
---     ready_after      the step of a section may be taken where P holds
+--     After text P q   P holds of the counts and the place that q answers, or q is the refusal that the form
+--                      gives the text
 --     step_after       the step leads from P to Q
 use mathlib.Core.Path.{◌≡◌, refl, sym, subst}
 use mathlib.Core.Logic.{inl, inr}
@@ -24,7 +23,7 @@ use Rattle.form.proofs.Lengths.{most, fine_room}
 use Rattle.cursor.specs.declared.Cursor.{Cursor}
 use Rattle.reader.specs.declared.sections.Sections.{Sections}
 use Rattle.reader.specs.Entries.{RefusedBy}
-use Rattle.reader.specs.Sections.{in_form, all_left, Stood, ReadyAt, Ready}
+use Rattle.reader.specs.Sections.{in_form, all_left, Stood, Ready}
 use Rattle.reader.specs.Sections.{SectionRead, SectionMissing, SectionAnswer, SectionStep}
 use Rattle.reader.proofs.Skipped.{not_both, skip_more}
 
@@ -67,38 +66,30 @@ module _ {text : List ℕ} {which : Sections} {job job' : Job} {here next : Curs
 
 -- ---- a step
 
-abbrev pub AfterIt : (text : List ℕ) (P : Job → Cursor → Type 0) → Result (Job × Cursor) Refusal → Type 0
-AfterIt text P (Ok (job, here)) = P job here
-AfterIt text P (Err r) = RefusedBy text r
+abbrev pub After : (text : List ℕ) (P : Job → Cursor → Type 0) → Result (Job × Cursor) Refusal → Type 0
+After text P (Ok (job, here)) = P job here
+After text P (Err r) = RefusedBy text r
 
-pub record After (text : List ℕ) (P : Job → Cursor → Type 0) (p : Result (Job × Cursor) Refusal) : Type 0 where
-  pub holds : AfterIt text P p
-
-module _ (text closed : List ℕ) (which : Sections) (P : Job → Cursor → Type 0)
-    (ready : (job : Job) (here : Cursor) → P job here → ReadyAt text closed which job here) where
-  pub ready_after : (p : Result (Job × Cursor) Refusal) → After text P p → Ready text closed which p
-  ready_after (Ok (job, here)) x = ready job here x.holds
-  ready_after (Err r) x = tt
-
-  -- what is read of the section is a step from P to Q, and so is that it is missing
-  pub step_after : (before after : List ℕ) (Q : Job → Cursor → Type 0)
-      → ((job job' : Job) (here next : Cursor) (x : P job here)
-      → SectionRead text (ready job here x).read which (ready job here x).left job job' next before after
-      → Q job' next)
-      → ((job job' : Job) (here next : Cursor) → P job here
-      → SectionMissing text which job job' here next before after
-      → Q job' next)
-      → (p q : Result (Job × Cursor) Refusal) → After text P p → SectionStep text closed which before after p q → After text Q q
-  step_after before after Q onward past (Err r) q x step =
-      record { holds = subst (AfterIt text Q) (sym step.takes) x.holds }
-  step_after before after Q onward past (Ok (job, here)) q x step =
-      let r = ready job here x.holds in
-      record { holds = answer q (step.takes r.read r.left r.asks r.stood) }
-    where
-      answer : (q : Result (Job × Cursor) Refusal)
-          → SectionAnswer text which before after (ready job here x.holds).read
-          (ready job here x.holds).left job here q
-          → AfterIt text Q q
-      answer (Ok (job', next)) (inl a) = onward job job' here next x.holds a
-      answer (Ok (job', next)) (inr a) = past job job' here next x.holds a
-      answer (Err r) a = a
+-- what is read of the section is a step from P to Q, and so is that it is missing
+pub step_after : (text closed : List ℕ) (which : Sections) (P : Job → Cursor → Type 0)
+    (ready : (job : Job) (here : Cursor) → P job here → Ready text closed which job here)
+    (before after : List ℕ) (Q : Job → Cursor → Type 0)
+    → ((job job' : Job) (here next : Cursor) (x : P job here)
+    → SectionRead text (ready job here x).read which (ready job here x).left job job' next before after
+    → Q job' next)
+    → ((job job' : Job) (here next : Cursor) → P job here
+    → SectionMissing text which job job' here next before after
+    → Q job' next)
+    → (job : Job) (here : Cursor) (q : Result (Job × Cursor) Refusal) → P job here
+    → SectionStep text closed which job here before after q
+    → After text Q q
+step_after text closed which P ready before after Q onward past job here q x step =
+    let r = ready job here x in
+    answer q (step.takes r.read r.left r.asks r.stood)
+  where
+    answer : (q : Result (Job × Cursor) Refusal)
+        → SectionAnswer text which before after (ready job here x).read (ready job here x).left job here q
+        → After text Q q
+    answer (Ok (job', next)) (inl a) = onward job job' here next x a
+    answer (Ok (job', next)) (inr a) = past job job' here next x a
+    answer (Err r) a = a

@@ -111,11 +111,11 @@ module _ (text : List ℕ) (which : Entries) (job : Job) (closed : List ℕ) (co
     room_here h room = omega (arith, further_numbers which (suc k) count h, l.size)
 
     pub lines_end : count ≤ k
-        → EntriesRead text which job closed count from before after (Ok (job, here))
+        → EntriesRead text which job closed count from before after (Ok here)
     lines_end h = record {
       reads = λ read left asks r.
           let e : k ≡ count = omega (arith, l.few) in
-          (refl, rw (due_is which count) (rw e at (l.collected read left asks r)));
+          rw (due_is which count) (rw e at (l.collected read left asks r));
       kept = l.kept;
     }
 
@@ -126,10 +126,9 @@ module _ (text : List ℕ) (which : Entries) (job : Job) (closed : List ℕ) (co
           drop_further ((section_of which).size * suc k) ((section_of which).size * count) after' after
           (further_numbers which (suc k) count inside) e ∙ l.kept
 
-      pub lines_lack : (q : Result (Job × Cursor) Refusal)
-          → q ≡ Err (record { fault = Malformed; place = here.line })
+      pub lines_lack : (q : Refusal) → q ≡ record { fault = Malformed; place = here.line }
           → EntryStored text (section_of which).size k here after after' None
-          → EntriesRead text which job closed count from before after' q
+          → EntriesRead text which job closed count from before after' (Err q)
       lines_lack q e st = rw e (record {
         reads = λ read left asks r.
             collected_lacking job_text text read (section_of which) count left (l.collected read left asks r)
@@ -143,8 +142,8 @@ module _ (text : List ℕ) (which : Entries) (job : Job) (closed : List ℕ) (co
           (room : (section_of which).size * suc k ≤ length after') (c : Result Unit Refusal)
           (judged : Judged (only_at k (each_in which job.nodes job.carriers closed after')) c) where
         pub lines_fail : (r : Refusal) → c ≡ Err r
-            → (q : Result (Job × Cursor) Refusal) → q ≡ Err (record { fault = r.fault; place = here.line })
-            → EntriesRead text which job closed count from before after' q
+            → (q : Refusal) → q ≡ record { fault = r.fault; place = here.line }
+            → EntriesRead text which job closed count from before after' (Err q)
         lines_fail r e q at_line = rw at_line (record {
           reads = λ read left asks x.
               checked_refused job_text text read (section_of which) count left (l.collected read left asks x)

@@ -6,7 +6,8 @@
 --     step_lacks        no line of its count stands, and it must: refused with 1
 --     step_below, step_above    its count is too small, or too great: refused with 2
 --     step_counted      its count fits, and is all
---     entries_ready, step_entries    its count fits, and its entries may be read, and were
+--     entries_ready, step_stops, step_entries    its count fits, and its entries may be read, and one is refused,
+--                       or they were
 use mathlib.Core.Path.{◌≡◌, refl, sym, ◌∙◌, ap, subst}
 use mathlib.Core.Logic.{◌↔◌, inl, inr}
 use mathlib.Core.List.{List, [], ◌∷◌}
@@ -32,9 +33,9 @@ use Rattle.network.specs.declared.entries.Entries.{Entries}
 use Rattle.reader.specs.declared.sections.Sections.{Sections}
 use Rattle.reader.specs.declared.sections.Sections.TheVariants.{Listed}
 use Rattle.reader.specs.declared.sections.Terms.{Terms}
-use Rattle.reader.specs.Entries.{Asks, section_of, Begun, EntriesRead, EntriesAnswer}
-use Rattle.reader.specs.Sections.{in_form, words, word_from, room_of, terms_in, with_count, Stood, ReadyAt}
-use Rattle.reader.specs.Sections.{Ready, SectionRead, SectionAnswer, SectionStep}
+use Rattle.reader.specs.Entries.{Asks, section_of, Begun, EntriesRead}
+use Rattle.reader.specs.Sections.{in_form, words, word_from, room_of, terms_in, with_count, Stood}
+use Rattle.reader.specs.Sections.{Ready, SectionRead, SectionStep}
 use Rattle.reader.proofs.Left.{beyond_zeroed, laid_filled}
 use Rattle.reader.proofs.Skipped.{skipped_lacking}
 use Rattle.reader.proofs.SectionKinds.{capitals, word_in, limited, form_terms, room_for, asks_still}
@@ -49,8 +50,7 @@ pub word_there : (which : Sections) (k : ℕ) (terms : Terms) → terms ≡ term
     → (terms.from ≤ terms.to) × (terms.to ≤ length words)
 word_there which k terms is = rw is ((word_in which k).1, (word_in which k).2)
 
-module _ (text closed : List ℕ) (which : Sections) (p : Result (Job × Cursor) Refusal) (job : Job) (here : Cursor)
-    (on : p ≡ Ok (job, here)) (before table : List ℕ)
+module _ (text closed : List ℕ) (which : Sections) (job : Job) (here : Cursor) (before table : List ℕ)
     (terms : Terms) (is_terms : terms ≡ terms_in which job.carriers)
     (zeros : table ≡ zeroed terms.room before) (long : room_of which ≤ length before) where
   abbrev shut : List ℕ
@@ -83,8 +83,8 @@ module _ (text closed : List ℕ) (which : Sections) (p : Result (Job × Cursor)
       none_here = (rw bad at at_word) (capitals which)
 
       pub step_missing : terms.optional ≡ true
-          → SectionStep text closed which before table p (Ok (job, here))
-      step_missing may = rw on (record {
+          → SectionStep text closed which job here before table (Ok (job, here))
+      step_missing may = record {
         takes = λ read left asks x. inr (record {
           may = optional_here ∙ may;
           none = none_here;
@@ -93,12 +93,12 @@ module _ (text closed : List ℕ) (which : Sections) (p : Result (Job × Cursor)
           zeroes = zeros_here;
         });
         beyond = beyond_here;
-      })
+      }
 
       pub step_lacks : terms.optional ≡ false
-          → (r : Result (Job × Cursor) Refusal) → r ≡ Err (record { fault = Malformed; place = here.line })
-          → SectionStep text closed which before table p r
-      step_lacks must r e = rw (on, e) (record {
+          → (r : Refusal) → r ≡ record { fault = Malformed; place = here.line }
+          → SectionStep text closed which job here before table (Err r)
+      step_lacks must r e = rw e (record {
         takes = λ read left asks x.
             skipped_lacking job_text text x.reached x.whole (in_form which) left x.is_left
             (optional_here ∙ must) none_here;
@@ -110,21 +110,20 @@ module _ (text closed : List ℕ) (which : Sections) (p : Result (Job × Cursor)
       taken : CountTaken text (in_form which).word here n next
       taken = rw got at at_word
 
-      module _ (r : Result (Job × Cursor) Refusal)
-          (e : r ≡ Err (record { fault = BadCount; place = here.line })) where
+      module _ (r : Refusal) (e : r ≡ record { fault = BadCount; place = here.line }) where
         step_unfit : ¬ ((terms.least ≤ n) × (n ≤ terms.greatest))
-            → SectionStep text closed which before table p r
-        step_unfit unfit = rw (on, e) (record {
+            → SectionStep text closed which job here before table (Err r)
+        step_unfit unfit = rw e (record {
           takes = λ read left asks x.
               count_unfit text here read (in_form which) left x n next taken
               (λ f. unfit ((fits_here read asks n).1 f));
           beyond = beyond_here;
         })
 
-        pub step_below : n < terms.least → SectionStep text closed which before table p r
+        pub step_below : n < terms.least → SectionStep text closed which job here before table (Err r)
         step_below h = step_unfit (λ f. let x : ⊥ = omega (arith, f.0) in x)
 
-        pub step_above : terms.greatest < n → SectionStep text closed which before table p r
+        pub step_above : terms.greatest < n → SectionStep text closed which job here before table (Err r)
         step_above h = step_unfit (λ f. let x : ⊥ = omega (arith, f.1) in x)
 
       -- it fits, and is put in
@@ -167,21 +166,18 @@ module _ (text closed : List ℕ) (which : Sections) (p : Result (Job × Cursor)
             }
 
         pub step_counted : ((e : Entries) → ¬ (which ≡ Listed e))
-            → SectionStep text closed which before table p (Ok (job', next))
-        step_counted alone = rw on (record {
+            → SectionStep text closed which job here before table (Ok (job', next))
+        step_counted alone = record {
           takes = λ read left asks x. inl (section_read read left asks table refl refl next
               (rw (no_entries which alone n) (collected_start job_text text read (in_form which) n left table
               (begins read left asks x))));
           beyond = beyond_here;
-        })
+        }
 
         -- its entries are read
-        module _ (e : Entries) (listed : which ≡ Listed e) (ready : Ready text closed which p) where
+        module _ (e : Entries) (listed : which ≡ Listed e) (ready : Ready text closed which job here) where
           section_is : in_form which ≡ section_of e
           section_is = ap in_form listed
-
-          ready_here : ReadyAt text closed which job here
-          ready_here = rw on at ready
 
           still : (read : List Content) → Asks (in_form which).entry job shut read
               → Asks (section_of e).entry job' shut read
@@ -204,40 +200,43 @@ module _ (text closed : List ℕ) (which : Sections) (p : Result (Job × Cursor)
               ∙ ap (λ (k : ℕ). (section_of e).size * k) (due_is e n)
 
           few : (section_of e).size * n ≤ room_of which
-          few = rw (due_here (in_form which) section_is) at (has_room ready_here.read ready_here.asks)
+          few = rw (due_here (in_form which) section_is) at (has_room ready.read ready.asks)
 
           pub entries_ready : length table ≡ length before → Begun text e job' shut n next table
           entries_ready same =
-              let r = ready_here in
               record {
-                read = r.read;
-                left = r.left;
-                asks = still r.read r.asks;
-                reached = leads r.read r.left r.asks r.stood;
+                read = ready.read;
+                left = ready.left;
+                asks = still ready.read ready.asks;
+                reached = leads ready.read ready.left ready.asks ready.stood;
                 room = omega (arith, few);
               }
 
-          pub step_entries : (after : List ℕ) → length after ≡ length table
-              → (r : Result (Job × Cursor) Refusal) → EntriesRead text e job' shut n next table after r
-              → SectionStep text closed which before after p r
-          step_entries after same r x = rw on (record {
-            takes = λ read left asks stood.
-                answer r read left asks (x.reads read left (still read asks) (leads read left asks stood));
-            beyond = drop_further ((section_of e).size * n) (room_of which) after table few x.kept
-                ∙ beyond_here;
-          })
-            where
-              answer : (r : Result (Job × Cursor) Refusal) (read : List Content) (left : Form)
-                  → Asks (in_form which).entry job shut read
-                  → EntriesAnswer text read (section_of e) n left job' after r
-                  → SectionAnswer text which before after read left job here r
-              answer (Err q) read left asks a = a
-              answer (Ok (job'', to)) read left asks a =
-                  inl (rw a.0
-                  (section_read read left asks after same
+          -- a line of an entry is refused, or all of them were read
+          module _ (after : List ℕ) where
+            beyond_still : {r : Result Cursor Refusal} → EntriesRead text e job' shut n next table after r
+                → drop (room_of which) after ≡ drop (room_of which) before
+            beyond_still x =
+                drop_further ((section_of e).size * n) (room_of which) after table few x.kept ∙ beyond_here
+
+            pub step_stops : (q : Refusal) → EntriesRead text e job' shut n next table after (Err q)
+                → SectionStep text closed which job here before after (Err q)
+            step_stops q x = record {
+              takes = λ read left asks stood. x.reads read left (still read asks) (leads read left asks stood);
+              beyond = beyond_still x;
+            }
+
+            pub step_entries : length after ≡ length table → (to : Cursor)
+                → EntriesRead text e job' shut n next table after (Ok to)
+                → SectionStep text closed which job here before after (Ok (job', to))
+            step_entries same to x = record {
+              takes = λ read left asks stood.
+                  inl (section_read read left asks after same
                   (rw (due_here (in_form which) section_is) x.kept)
                   to
                   (subst
                   (λ (s : Section).
                   Collected job_text text read s n left (due s n) after (drop to.at text) to.line)
-                  (sym section_is) a.1)))
+                  (sym section_is) (x.reads read left (still read asks) (leads read left asks stood))));
+              beyond = beyond_still x;
+            }

@@ -4,7 +4,7 @@
 --     end_lacks, end_here    bytes are left, or none is
 --     after_dwell      the section was read, or is missing
 --     text_answer      the answer at the end
-use mathlib.Core.Path.{◌≡◌, refl, sym, ◌∙◌, ap, subst}
+use mathlib.Core.Path.{◌≡◌, refl, ◌∙◌, ap, subst}
 use mathlib.Core.List.{List, [], ◌∷◌, ◌++◌, append_assoc}
 use Prim.Native.Nat.{ℕ, ◌≤◌, ◌<◌}
 use native.Mathlib.Omega.{arith}
@@ -36,12 +36,12 @@ use Rattle.reader.proofs.TextStands.{up_to_order, OrderAt, DwellAt, order-reads}
 
 module _ (text : List ℕ) (job : Job) (here : Cursor) where
   pub end_lacks : here.at < length text
-      → EndStep text (Ok (job, here)) (Err (record { fault = Malformed; place = here.line }))
+      → EndStep text job here (Err (record { fault = Malformed; place = here.line }))
   end_lacks h read x =
       skipped_over job_text text x.reached x.whole x.is_left
       (λ z. let l = ap length z in let y : ⊥ = omega (arith, length-drop here.at text) in y)
 
-  pub end_here : length text ≤ here.at → EndStep text (Ok (job, here)) (Ok job)
+  pub end_here : length text ≤ here.at → EndStep text job here (Ok job)
   end_here h read x =
       let may = (skips_lack x.is_left).1 tt in
       let form = at_end job_text text x.reached (x.whole, may) (drop_of_length-le text h) in
@@ -115,8 +115,9 @@ module _ (text lanes lanes' closed closed' moves moves' order order' : List ℕ)
     order_left = x.order_left;
   }
 
-  pub after_dwell : (before after : List ℕ) (p q : Result (Job × Cursor) Refusal) → After text ReadOrder p
-      → SectionStep text closed' Dwell before after p q
+  pub after_dwell : (before after : List ℕ) (job : Job) (here : Cursor)
+      (q : Result (Job × Cursor) Refusal) → ReadOrder job here
+      → SectionStep text closed' Dwell job here before after q
       → After text ReadDwell q
   unfolding order-reads
   after_dwell before after =
@@ -127,12 +128,9 @@ module _ (text lanes lanes' closed closed' moves moves' order order' : List ℕ)
   -- ---- the answer
 
   pub text_answer : ¬ AnyShort lanes closed moves order
-      → (p : Result (Job × Cursor) Refusal) (r : Result Job Refusal) → After text ReadDwell p → EndStep text p r
+      → (job : Job) (here : Cursor) (r : Result Job Refusal) → ReadDwell job here → EndStep text job here r
       → TextAnswer text lanes closed moves order lanes' closed' moves' order' r
-  text_answer long (Err q) r x e =
-      subst (TextAnswer text lanes closed moves order lanes' closed' moves' order') (sym e) x.holds
-  text_answer long (Ok (job, here)) r x e =
-      answer r x.holds (e (sections_of x.holds) x.holds.stood)
+  text_answer long job here r x e = answer r x (e (sections_of x) x.stood)
     where
       sections_of : ReadDwell job here → List Content
       sections_of x =

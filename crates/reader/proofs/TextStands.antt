@@ -25,7 +25,7 @@ use Rattle.form.proofs.JobSections.{nodes_read, closed_read, closed_read_lem, ca
 use Rattle.cursor.specs.declared.Cursor.{Cursor}
 use Rattle.network.specs.declared.entries.Entries.TheVariants.{Lanes, Closed, Moves, Places}
 use Rattle.reader.specs.declared.sections.Sections.TheVariants.{Nodes, Dwell, Listed}
-use Rattle.reader.specs.Sections.{counting, all_left, Stood, ReadyAt}
+use Rattle.reader.specs.Sections.{counting, all_left, Stood, Ready}
 
 -- ---- the sections behind each section
 
@@ -151,7 +151,7 @@ in_table job c closed e h = omega arith
 
 module _ (text : List ℕ) where
   unfoldable pub start-reads : (job : Job) (here : Cursor) → StartAt text job here
-      → ReadyAt text [] Nodes job here
+      → Ready text [] Nodes job here
   start-reads job here x = record {
     read = [];
     left = behind_nodes;
@@ -167,7 +167,7 @@ module _ (text : List ℕ) where
   }
 
   unfoldable pub nodes-reads : (job : Job) (here : Cursor) → NodesAt text job here
-      → ReadyAt text [] (Listed Lanes) job here
+      → Ready text [] (Listed Lanes) job here
   nodes-reads job here x = record {
     read = content NODES x.n x.none ∷ [];
     left = behind_lanes;
@@ -178,7 +178,7 @@ module _ (text : List ℕ) where
 
   unfoldable pub lanes-reads : {lanes lanes' : List ℕ} (job : Job) (here : Cursor)
       → LanesAt text lanes lanes' job here
-      → ReadyAt text [] (Listed Closed) job here
+      → Ready text [] (Listed Closed) job here
   lanes-reads job here x =
       let more = content LANES x.m x.ls ∷ [] in
       record {
@@ -191,7 +191,7 @@ module _ (text : List ℕ) where
 
   unfoldable pub closed-reads : {lanes lanes' closed closed' : List ℕ} (job : Job) (here : Cursor)
       → ClosedAt text lanes lanes' closed closed' job here
-      → ReadyAt text closed' (Listed Moves) job here
+      → Ready text closed' (Listed Moves) job here
   closed-reads {closed' = closed'} job here x =
       let more = content LANES x.m x.ls ∷ closed_read x.cs in
       let shut = ap (λ (j : Job). j.closed) x.counts in
@@ -210,7 +210,7 @@ module _ (text : List ℕ) where
   unfoldable pub carriers-reads : {lanes lanes' closed closed' moves moves' : List ℕ} (job : Job)
       (here : Cursor)
       → CarriersAt text lanes lanes' closed closed' moves moves' job here
-      → ReadyAt text closed' (Listed Places) job here
+      → Ready text closed' (Listed Places) job here
   carriers-reads {closed' = closed'} job here x =
       let same : job.carriers ≡ x.k = ap (λ (j : Job). j.carriers) x.counts in
       record {
@@ -229,7 +229,7 @@ module _ (text : List ℕ) where
   unfoldable pub order-reads : {lanes lanes' closed closed' moves moves' order order' : List ℕ} (job : Job)
       (here : Cursor)
       → OrderAt text lanes lanes' closed closed' moves moves' order order' job here
-      → ReadyAt text closed' Dwell job here
+      → Ready text closed' Dwell job here
   order-reads {closed' = closed'} job here x = record {
     read = up_to_order x.n x.m x.k x.p x.none x.ls x.cs x.ms x.os;
     left = [];

@@ -1,5 +1,5 @@
 -- The sections one after the other: each step leads from what holds behind the section before
--- (TextStands.antt) to what holds behind its own; or the text is refused, and stays so. A section that is
+-- (TextStands.antt) to what holds behind its own; or the text is refused. A section that is
 -- added to the form is one more such step. The last of them, that of the dwell, and the end are in
 -- TextEnd.antt. Assumes nothing.
 --     after_nodes, after_lanes, after_closed, after_carriers, after_order    the section was read, or is
@@ -29,8 +29,8 @@ use Rattle.reader.proofs.TextStands.{start-reads, nodes-reads, lanes-reads, clos
 use Rattle.reader.proofs.TextStands.{carriers-reads}
 
 module _ (text : List ℕ) where
-  pub after_nodes : (before after : List ℕ) (p q : Result (Job × Cursor) Refusal) → After text (StartAt text) p
-      → SectionStep text [] Nodes before after p q → After text (NodesAt text) q
+  pub after_nodes : (before after : List ℕ) (job : Job) (here : Cursor) (q : Result (Job × Cursor) Refusal) → StartAt text job here
+      → SectionStep text [] Nodes job here before after q → After text (NodesAt text) q
   unfolding start-reads
   after_nodes before after =
       step_after text [] Nodes (StartAt text) (start-reads text) before after (NodesAt text)
@@ -46,8 +46,8 @@ module _ (text : List ℕ) where
     abbrev ReadLanes : Job → Cursor → Type 0
     ReadLanes = LanesAt text lanes lanes'
 
-    pub after_lanes : (p q : Result (Job × Cursor) Refusal) → After text (NodesAt text) p
-        → SectionStep text [] (Listed Lanes) lanes lanes' p q → After text ReadLanes q
+    pub after_lanes : (job : Job) (here : Cursor) (q : Result (Job × Cursor) Refusal) → NodesAt text job here
+        → SectionStep text [] (Listed Lanes) job here lanes lanes' q → After text ReadLanes q
     unfolding nodes-reads
     after_lanes =
         step_after text [] (Listed Lanes) (NodesAt text) (nodes-reads text) lanes lanes' ReadLanes
@@ -116,8 +116,8 @@ module _ (text : List ℕ) where
       }
 
       pub after_closed : node_limit ≤ length closed → length closed' ≡ length closed
-          → (p q : Result (Job × Cursor) Refusal) → After text ReadLanes p
-          → SectionStep text [] (Listed Closed) closed closed' p q
+          → (job : Job) (here : Cursor) (q : Result (Job × Cursor) Refusal) → ReadLanes job here
+          → SectionStep text [] (Listed Closed) job here closed closed' q
           → After text ReadClosed q
       unfolding lanes-reads
       after_closed long same =
@@ -129,8 +129,8 @@ module _ (text : List ℕ) where
         abbrev ReadCarriers : Job → Cursor → Type 0
         ReadCarriers = CarriersAt text lanes lanes' closed closed' moves moves'
 
-        pub after_carriers : (p q : Result (Job × Cursor) Refusal) → After text ReadClosed p
-            → SectionStep text closed' (Listed Moves) moves moves' p q
+        pub after_carriers : (job : Job) (here : Cursor) (q : Result (Job × Cursor) Refusal) → ReadClosed job here
+            → SectionStep text closed' (Listed Moves) job here moves moves' q
             → After text ReadCarriers q
         unfolding closed-reads
         after_carriers =
@@ -157,8 +157,8 @@ module _ (text : List ℕ) where
           abbrev ReadOrder : Job → Cursor → Type 0
           ReadOrder = OrderAt text lanes lanes' closed closed' moves moves' order order'
 
-          pub after_order : (p q : Result (Job × Cursor) Refusal) → After text ReadCarriers p
-              → SectionStep text closed' (Listed Places) order order' p q
+          pub after_order : (job : Job) (here : Cursor) (q : Result (Job × Cursor) Refusal) → ReadCarriers job here
+              → SectionStep text closed' (Listed Places) job here order order' q
               → After text ReadOrder q
           unfolding carriers-reads
           after_order =

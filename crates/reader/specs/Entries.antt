@@ -7,8 +7,7 @@
 --     EntryStored    the line of entry k was taken and its numbers stand in the table behind those before; or
 --                    there is no such line. Further places of the table are as they were, here and below
 --     Begun          the form leads to the first line of the entries, and the table has room for them
---     EntriesRead    all entries were read and stand in the table, and the counts are as they came; or the
---                    text is refused
+--     EntriesRead    all entries were read and stand in the table; or the text is refused
 -- `Stored`, `StoredAnswer` and `EntriesAnswer` are parts of these, by what is answered.
 use Rattle.std.specs.Prelude.{◌≡◌, List, [], ◌++◌, ℕ, suc, ◌*◌, ◌≤◌, length, take, drop, Option, None, Some, Result, Ok, Err}
 use Rattle.hall.specs.declared.Job.{Job}
@@ -74,16 +73,15 @@ pub record Begun (text : List ℕ) (which : Entries) (job : Job) (closed : List 
   pub room : (section_of which).size * count ≤ length table
 
 abbrev pub EntriesAnswer : (text : List ℕ) (read : List Content) (s : Section) (count : ℕ) (left : Form)
-    (job : Job) (table : List ℕ) → Result (Job × Cursor) Refusal → Type 0
-EntriesAnswer text read s count left job table (Ok (job', next)) =
-    (job' ≡ job)
-    × Collected job_text text read s count left (due s count) table (drop next.at text) next.line
-EntriesAnswer text read s count left job table (Err r) = RefusedBy text r
+    (table : List ℕ) → Result Cursor Refusal → Type 0
+EntriesAnswer text read s count left table (Ok next) =
+    Collected job_text text read s count left (due s count) table (drop next.at text) next.line
+EntriesAnswer text read s count left table (Err r) = RefusedBy text r
 
 pub record EntriesRead (text : List ℕ) (which : Entries) (job : Job) (closed : List ℕ) (count : ℕ)
-    (from : Cursor) (before after : List ℕ) (r : Result (Job × Cursor) Refusal) : Type 0 where
+    (from : Cursor) (before after : List ℕ) (r : Result Cursor Refusal) : Type 0 where
   pub reads : (read : List Content) (left : Form)
       → Asks (section_of which).entry job closed read
       → Reached job_text text (within read (section_of which) count [] left) (drop from.at text) from.line
-      → EntriesAnswer text read (section_of which) count left job after r
+      → EntriesAnswer text read (section_of which) count left after r
   pub kept : drop ((section_of which).size * count) after ≡ drop ((section_of which).size * count) before

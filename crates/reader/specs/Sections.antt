@@ -17,10 +17,10 @@
 --                    count, and the table is filled with its numbers
 --     SectionMissing a section that may be missing is: no line of its count stands here, nothing changes, and
 --                    the table has zeros
---     SectionStep    what a step answers: its section read or missing, or the text refused. A refusal passes
---                    through. Places from the least length on are as they were, whatever it answers
+--     SectionStep    what a step answers: its section read or missing, or the text refused. Places from the
+--                    least length on are as they were, whatever it answers
 --     EndStep        what the last step answers: the text is accepted with the sections read, or refused
--- `terms`, `counting`, `ReadyAt`, `SectionAnswer`, `SectionTaken` and `EndAnswer` are parts of these.
+-- `terms`, `counting`, `SectionAnswer` and `EndAnswer` are parts of these.
 use Rattle.std.specs.Prelude.{◌≡◌, ◌⊎◌, List, [], ◌∷◌, ◌++◌, Bool, true, false, ℕ, ◌-◌, ◌≤◌, length, take, drop, Result, Ok, Err}
 use Rattle.hall.specs.declared.Refusal.{Refusal}
 use Rattle.hall.specs.declared.Job.{Job}
@@ -99,16 +99,12 @@ pub record Stood (text : List ℕ) (read : List Content) (left : Form) (here : C
   pub is_read : contents stand ≡ read
   pub is_left : Skips (drop here.at text) (behind job_text stand) left
 
-pub record ReadyAt (text closed : List ℕ) (which : Sections) (job : Job) (here : Cursor) : Type 0 where
+pub record Ready (text closed : List ℕ) (which : Sections) (job : Job) (here : Cursor) : Type 0 where
   pub read : List Content
   pub left : Form
   pub asks : Asks (in_form which).entry job (take job.closed closed) read
   pub few_closed : job.closed ≤ length closed
   pub stood : Stood text read (in_form which ∷ left) here
-
-abbrev pub Ready : (text closed : List ℕ) (which : Sections) → Result (Job × Cursor) Refusal → Type 0
-Ready text closed which (Ok (job, here)) = ReadyAt text closed which job here
-Ready text closed which (Err r) = Unit
 
 pub record SectionRead (text : List ℕ) (read : List Content) (which : Sections) (left : Form) (job job' : Job)
     (next : Cursor) (before after : List ℕ) : Type 0 where
@@ -127,25 +123,19 @@ pub record SectionMissing (text : List ℕ) (which : Sections) (job job' : Job) 
   pub same_place : next ≡ here
   pub zeroes : after ≡ zeroed (room_of which) before
 
-module _ (text : List ℕ) (which : Sections) (before after : List ℕ) where
-  abbrev pub SectionAnswer : (read : List Content) (left : Form) (job : Job) (here : Cursor) → Result (Job × Cursor) Refusal
-      → Type 0
-  SectionAnswer read left job here (Ok (job', next)) =
-      SectionRead text read which left job job' next before after
-      ⊎ SectionMissing text which job job' here next before after
-  SectionAnswer read left job here (Err r) = RefusedBy text r
+abbrev pub SectionAnswer : (text : List ℕ) (which : Sections) (before after : List ℕ) (read : List Content)
+    (left : Form) (job : Job) (here : Cursor) → Result (Job × Cursor) Refusal → Type 0
+SectionAnswer text which before after read left job here (Ok (job', next)) =
+    SectionRead text read which left job job' next before after
+    ⊎ SectionMissing text which job job' here next before after
+SectionAnswer text which before after read left job here (Err r) = RefusedBy text r
 
-  abbrev pub SectionTaken : (closed : List ℕ) (so_far : Result (Job × Cursor) Refusal) → Result (Job × Cursor) Refusal → Type 0
-  SectionTaken closed (Ok (job, here)) r =
-      (read : List Content) (left : Form)
+pub record SectionStep (text closed : List ℕ) (which : Sections) (job : Job) (here : Cursor)
+    (before after : List ℕ) (r : Result (Job × Cursor) Refusal) : Type 0 where
+  pub takes : (read : List Content) (left : Form)
       → Asks (in_form which).entry job (take job.closed closed) read
       → Stood text read (in_form which ∷ left) here
-      → SectionAnswer read left job here r
-  SectionTaken closed (Err q) r = r ≡ Err q
-
-pub record SectionStep (text closed : List ℕ) (which : Sections) (before after : List ℕ)
-    (so_far r : Result (Job × Cursor) Refusal) : Type 0 where
-  pub takes : SectionTaken text which before after closed so_far r
+      → SectionAnswer text which before after read left job here r
   pub beyond : drop (room_of which) after ≡ drop (room_of which) before
 
 -- ---- the end
@@ -154,7 +144,5 @@ abbrev pub EndAnswer : (text : List ℕ) (read : List Content) (job : Job) → R
 EndAnswer text read job (Ok j) = (j ≡ job) × WrittenForm job_text text read
 EndAnswer text read job (Err r) = RefusedBy text r
 
-abbrev pub EndStep : (text : List ℕ) (so_far : Result (Job × Cursor) Refusal) → Result Job Refusal → Type 0
-EndStep text (Ok (job, here)) r =
-    (read : List Content) → Stood text read [] here → EndAnswer text read job r
-EndStep text (Err q) r = r ≡ Err q
+abbrev pub EndStep : (text : List ℕ) (job : Job) (here : Cursor) → Result Job Refusal → Type 0
+EndStep text job here r = (read : List Content) → Stood text read [] here → EndAnswer text read job r

@@ -33,8 +33,7 @@ fn too_short(lanes: usize, closed: usize, moves: usize, order: usize) -> bool
 }
 
 // The sections in their order, into tables that are long enough, and the end. The nodes and the dwell go into
-// no table, and leave the one that they are lent; before the closed nodes are read there are none. A refusal
-// passes through the steps behind it, so that the four tables have one way out.
+// no table, and leave the one that they are lent; before the closed nodes are read there are none.
 fn read_text(
     text: &[u8],
     lanes: &mut [u16],
@@ -55,15 +54,49 @@ fn read_text(
         result }
 {
     let none: &[u16] = &[];
-    let mut read = Ok((Job::empty(), Cursor::start()));
-    read = section(text, read, Sections::Nodes, none, lanes);
-    read = section(text, read, Sections::Listed(Entries::Lanes), none, lanes);
-    read = section(text, read, Sections::Listed(Entries::Closed), none, closed);
+    let (job, here) = section(
+        text,
+        Job::empty(),
+        Cursor::start(),
+        Sections::Nodes,
+        none,
+        lanes,
+    )?;
+    let (job, here) = section(
+        text,
+        job,
+        here,
+        Sections::Listed(Entries::Lanes),
+        none,
+        lanes,
+    )?;
+    let (job, here) = section(
+        text,
+        job,
+        here,
+        Sections::Listed(Entries::Closed),
+        none,
+        closed,
+    )?;
     let shut: &[u16] = closed;
-    read = section(text, read, Sections::Listed(Entries::Moves), shut, moves);
-    read = section(text, read, Sections::Listed(Entries::Places), shut, order);
-    read = section(text, read, Sections::Dwell, shut, order);
-    at_end(text, read)
+    let (job, here) = section(
+        text,
+        job,
+        here,
+        Sections::Listed(Entries::Moves),
+        shut,
+        moves,
+    )?;
+    let (job, here) = section(
+        text,
+        job,
+        here,
+        Sections::Listed(Entries::Places),
+        shut,
+        order,
+    )?;
+    let (job, here) = section(text, job, here, Sections::Dwell, shut, order)?;
+    at_end(text, job, here)
 }
 
 // Reads a job text. The lanes' numbers go to `lanes`, the closed nodes to `closed`, the starts and goals of

@@ -1,19 +1,12 @@
 // The lines of a section's entries (rules 7.8 to 7.12), whose numbers go into a lent table one after the
 // other. An entry is stored first and then checked where it stands, by the checks of crate network. The first
 // faulty line ends the reading; its line is the cursor's.
-ghost use Rattle.std.specs.Prelude.{◌≡◌, suc, ◌*◌, ◌≤◌, length, Err};
+ghost use Rattle.std.specs.Prelude.{suc, ◌*◌, ◌≤◌, length};
 ghost use Rattle.reader.specs.Entries.{section_of, EntryStored, Begun, EntriesRead};
 
 use cursor::Cursor;
 use hall::{Fault, Job, Refusal};
 use network::entries::{Entries, check_one};
-
-// The text is refused at the line where the cursor stands.
-pub(crate) fn refused(fault: Fault, here: Cursor) -> Result<(Job, Cursor), Refusal>
-    ensures { result ≡ Err (record { fault = fault; place = here.line }) }
-{
-    Err(Refusal::new(fault, here.line))
-}
 
 // The numbers of entry k, from its line into the table.
 fn store_entry(
@@ -45,8 +38,8 @@ fn store_entry(
     }
 }
 
-// As many lines of entries as are counted, from where the cursor stands. Only the checks of moves look at the
-// closed nodes.
+// As many lines of entries as are counted, from where the cursor stands, to where the next line begins. Only the
+// checks of moves look at the closed nodes.
 pub(crate) fn entry_lines(
     text: &[u8],
     from: Cursor,
@@ -55,24 +48,21 @@ pub(crate) fn entry_lines(
     closed: &[u16],
     count: usize,
     table: &mut [u16],
-) -> Result<(Job, Cursor), Refusal>
+) -> Result<Cursor, Refusal>
     requires { Begun text.now which job closed.now count from table.old }
     ensures { EntriesRead text.now which job closed.now count from
         table.old table.new result }
 {
     let mut here = from;
-    let mut k: usize = 0;
-    while k < count {
+    for k in 0..count {
         let Some(next) = store_entry(text, here, which, k, table) else {
-            return refused(Fault::Malformed, here);
+            return Err(Refusal::new(Fault::Malformed, here.line));
         };
         let checked = check_one(which, job.nodes, job.carriers, closed, table, k);
         if let Err(r) = checked {
-            let fault = r.fault;
-            return refused(fault, here);
+            return Err(Refusal::new(r.fault, here.line));
         }
         here = next;
-        k += 1;
     }
-    Ok((job, here))
+    Ok(here)
 }

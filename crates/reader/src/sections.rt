@@ -1,14 +1,13 @@
 // The sections of a job text (rules 7.1, 7.8 to 7.13, 7.17 and 7.18). One step reads any of them: it takes
 // what was read so far, and puts the section's count and its entries to it. The sections differ in their
 // terms, in where their count goes and in what they list; a section that is added to the form is one case
-// more in each of these. A refusal passes through a step, so that the first one is what is answered. The last
-// step asks for the end of the text.
+// more in each of these. The last step asks for the end of the text.
 ghost use Rattle.std.specs.Prelude.{◌≡◌, ◌≤◌, length};
 ghost use Rattle.cursor.specs.Steps.{Counting};
 ghost use Rattle.reader.specs.Sections.{words, word_from, room_of, terms_in, with_count};
 ghost use Rattle.reader.specs.Sections.{Ready, SectionStep, EndStep};
 
-use crate::lines::{entry_lines, refused};
+use crate::lines::entry_lines;
 use cursor::Cursor;
 use hall::zero::fill_first;
 use hall::{Fault, Job, Refusal};
@@ -132,59 +131,53 @@ fn with_count(which: Sections, count: usize, before: Job) -> Job
     job
 }
 
-// A section: its table becomes zero, then its count is read, and as many entries, if it lists any, go in
-// front of the zeros; the ends of moves may not be among the closed nodes so far. Where no line of its count
-// stands and it may be missing, nothing more changes: the cursor stays, and the next step asks for its own
-// line there. A section without entries leaves the table that it is lent.
+// A section, behind the counts so far and from where the cursor stands: the counts with its own put in, and where
+// the next line begins. Its table becomes zero, then its count is read, and as many entries, if it lists any, go
+// in front of the zeros; the ends of moves may not be among the closed nodes so far. Where no line of its count
+// stands and it may be missing, nothing more changes: the cursor stays, and the next step asks for its own line
+// there. A section without entries leaves the table that it is lent.
 pub(crate) fn section(
     text: &[u8],
-    progress: Result<(Job, Cursor), Refusal>,
+    before: Job,
+    here: Cursor,
     which: Sections,
     closed: &[u16],
     table: &mut [u16],
 ) -> Result<(Job, Cursor), Refusal>
-    requires { Ready text.now closed.now which progress × (room_of which ≤ length table.old) }
-    ensures { SectionStep text.now closed.now which
-        table.old table.new progress result }
+    requires { Ready text.now closed.now which before here × (room_of which ≤ length table.old) }
+    ensures { SectionStep text.now closed.now which before here
+        table.old table.new result }
 {
-    let Ok((before, here)) = progress else {
-        return progress;
-    };
     let terms = terms_of(which, before.carriers);
     fill_first(table, terms.room, 0);
     let Some((number, next)) = counted(text, here, terms.from, terms.to) else {
         if terms.optional {
             return Ok((before, here));
         }
-        return refused(Fault::Malformed, here);
+        return Err(Refusal::new(Fault::Malformed, here.line));
     };
     let count = number as usize;
     if count < terms.least {
-        return refused(Fault::BadCount, here);
+        return Err(Refusal::new(Fault::BadCount, here.line));
     }
     if terms.greatest < count {
-        return refused(Fault::BadCount, here);
+        return Err(Refusal::new(Fault::BadCount, here.line));
     }
     let job = with_count(which, count, before);
     let Sections::Listed(entries) = which else {
         return Ok((job, next));
     };
     let shut = before.closed;
-    entry_lines(text, next, entries, job, &closed[..shut], count, table)
+    let behind = entry_lines(text, next, entries, job, &closed[..shut], count, table)?;
+    Ok((job, behind))
 }
 
 // The end of the text: no byte may be left.
-pub(crate) fn at_end(text: &[u8], progress: Result<(Job, Cursor), Refusal>) -> Result<Job, Refusal>
-    ensures { EndStep text.now progress result }
+pub(crate) fn at_end(text: &[u8], job: Job, here: Cursor) -> Result<Job, Refusal>
+    ensures { EndStep text.now job here result }
 {
-    match progress {
-        Ok((job, here)) => {
-            let at = here.at;
-            if at < text.len() {
-                return Err(Refusal::new(Fault::Malformed, here.line));
-            }
-            Ok(job)
-        }
-        Err(r) => Err(r),
+    if here.at < text.len() {
+        return Err(Refusal::new(Fault::Malformed, here.line));
     }
+    Ok(job)
 }

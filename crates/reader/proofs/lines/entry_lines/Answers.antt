@@ -8,14 +8,14 @@ loop-k-init c = lines_begin _ _ _ _ _ _ _
 
 pub returns-in_default : goal.returns-in_default
 returns-in_default c =
-    lines_lack _ _ _ _ _ _ _ _ _ _ c.loop-k.invariant c.loop-k-test.true _ _ c.refused.ensures c.in_default.ensures
+    lines_lack _ _ _ _ _ _ _ _ _ _ c.loop-k.invariant c.loop-k-test.true _ _ c.new.ensures c.in_default.ensures
 
 pub returns-in-Err : goal.returns-in-Err
 returns-in-Err c =
     let room = room_here _ _ _ _ _ _ _ _ _ _ c.loop-k.invariant c.loop-k-test.true c.requires.room in
     lines_fail _ _ _ _ _ _ _ _ _ _ c.loop-k.invariant c.loop-k-test.true _ _ c.in-Some.ensures
     (rw c.store_entry.auto.table room) _ c.check_one-checked.ensures _ c.in-Err.is _
-    c.refused-in-Err.ensures
+    c.new-in-Err.ensures
 
 pub loop-k-preserved : goal.loop-k-preserved
 loop-k-preserved c =

@@ -2,8 +2,8 @@
 use Rattle.reader.proofs.TextEnd.{end_lacks, end_here}
 use Rattle.reader.proofs.sections.at_end.Goals as goal
 
-pub returns-then-at-text : goal.returns-then-at-text
-returns-then-at-text c = rw (c.in-Ok.is, c.new.ensures) (end_lacks _ c.in-Ok.job _ c.if-at-text.true)
+pub returns-then-here-text : goal.returns-then-here-text
+returns-then-here-text c = rw c.new.ensures (end_lacks _ c.args.job _ c.if-here-text.true)
 
-pub returns-else-at-text : goal.returns-else-at-text
-returns-else-at-text c = rw c.in-Ok.is (end_here _ _ c.in-Ok.here c.if-at-text.false)
+pub returns : goal.returns
+returns c = end_here _ _ c.args.here c.if-here-text.false

@@ -1,46 +1,55 @@
 -- No line of the count stands, and the section is missing or lacks; the count does not fit; or it does, and is
 -- all, or its entries follow. Each answer is one law of SectionSteps.antt.
+use Rattle.std.proofs.lemmas.Result.{err_from_is_err_and}
 use Rattle.reader.proofs.SectionSteps.{word_there, step_missing, step_lacks, step_below, step_above}
-use Rattle.reader.proofs.SectionSteps.{step_counted, entries_ready, step_entries}
+use Rattle.reader.proofs.SectionSteps.{step_counted, entries_ready, step_stops, step_entries}
 use Rattle.reader.proofs.sections.section.Goals as goal
 
 pub counted-requires : goal.counted-requires
-counted-requires c = word_there c.args.which c.in-Ok.before.carriers _ c.terms_of-terms.ensures
+counted-requires c = word_there c.args.which c.args.before.carriers _ c.terms_of-terms.ensures
 
 pub returns-then-terms : goal.returns-then-terms
 returns-then-terms c =
-    step_missing _ _ _ _ _ _ c.in-Ok.is _ _ _ c.terms_of-terms.ensures c.fill_first.ensures c.requires.1 _
-    c.counted.ensures c.in_default-counted.is c.if-terms.true
+    step_missing _ _ _ _ _ _ _ _ c.terms_of-terms.ensures c.fill_first.ensures c.requires.1 _
+    c.counted.ensures c.in_default.is c.if-terms.true
 
-pub returns-in_default-counted : goal.returns-in_default-counted
-returns-in_default-counted c =
-    step_lacks _ _ _ _ _ _ c.in-Ok.is _ _ _ c.terms_of-terms.ensures c.fill_first.ensures c.requires.1 _
-    c.counted.ensures c.in_default-counted.is c.if-terms.false _ c.refused.ensures
+pub returns-in_default : goal.returns-in_default
+returns-in_default c =
+    step_lacks _ _ _ _ _ _ _ _ c.terms_of-terms.ensures c.fill_first.ensures c.requires.1 _
+    c.counted.ensures c.in_default.is c.if-terms.false _ c.new.ensures
 
 pub returns-then-count-terms : goal.returns-then-count-terms
 returns-then-count-terms c =
-    step_below _ _ _ _ _ _ c.in-Ok.is _ _ _ c.terms_of-terms.ensures c.fill_first.ensures c.requires.1 _
-    c.counted.ensures _ _ c.in-Some.is _ c.refused-then-count-terms.ensures c.if-count-terms.true
+    step_below _ _ _ _ _ _ _ _ c.terms_of-terms.ensures c.fill_first.ensures c.requires.1 _
+    c.counted.ensures _ _ c.in-Some.is _ c.new-then-count-terms.ensures c.if-count-terms.true
 
 pub returns-then-terms-count : goal.returns-then-terms-count
 returns-then-terms-count c =
-    step_above _ _ _ _ _ _ c.in-Ok.is _ _ _ c.terms_of-terms.ensures c.fill_first.ensures c.requires.1 _
-    c.counted.ensures _ _ c.in-Some.is _ c.refused-then-terms-count.ensures c.if-terms-count.true
+    step_above _ _ _ _ _ _ _ _ c.terms_of-terms.ensures c.fill_first.ensures c.requires.1 _
+    c.counted.ensures _ _ c.in-Some.is _ c.new-then-terms-count.ensures c.if-terms-count.true
 
 pub returns-in_default-which : goal.returns-in_default-which
 returns-in_default-which c =
-    step_counted _ _ _ _ _ _ c.in-Ok.is _ _ _ c.terms_of-terms.ensures c.fill_first.ensures c.requires.1 _
+    step_counted _ _ _ _ _ _ _ _ c.terms_of-terms.ensures c.fill_first.ensures c.requires.1 _
     c.counted.ensures _ _ c.in-Some.is c.if-count-terms.false c.if-terms-count.false _ c.with_count-job.ensures
     c.in_default-which.not-Listed
 
 pub entry_lines-requires : goal.entry_lines-requires
 entry_lines-requires c =
-    entries_ready _ _ _ _ _ _ c.in-Ok.is _ _ _ c.terms_of-terms.ensures c.fill_first.ensures c.requires.1 _
+    entries_ready _ _ _ _ _ _ _ _ c.terms_of-terms.ensures c.fill_first.ensures c.requires.1 _
     c.counted.ensures _ _ c.in-Some.is c.if-count-terms.false c.if-terms-count.false _ c.with_count-job.ensures
     _ c.in-Listed.is c.requires.0 c.fill_first.auto.list
 
+pub returns-in_err-behind : goal.returns-in_err-behind
+returns-in_err-behind c =
+    let p = err_from_is_err_and c.from_residual.result c.from_residual.ensures.1 in
+    rw (p.1, p.2)
+    (step_stops _ _ _ _ _ _ _ _ c.terms_of-terms.ensures c.fill_first.ensures c.requires.1 _
+    c.counted.ensures _ _ c.in-Some.is c.if-count-terms.false c.if-terms-count.false _ c.with_count-job.ensures
+    _ c.in-Listed.is c.requires.0 _ _ c.in_err-behind.ensures)
+
 pub returns : goal.returns
 returns c =
-    step_entries _ _ _ _ _ _ c.in-Ok.is _ _ _ c.terms_of-terms.ensures c.fill_first.ensures c.requires.1 _
+    step_entries _ _ _ _ _ _ _ _ c.terms_of-terms.ensures c.fill_first.ensures c.requires.1 _
     c.counted.ensures _ _ c.in-Some.is c.if-count-terms.false c.if-terms-count.false _ c.with_count-job.ensures
-    _ c.in-Listed.is c.requires.0 _ c.entry_lines.auto.table _ c.entry_lines.ensures
+    _ c.in-Listed.is c.requires.0 _ c.entry_lines.auto.table _ c.in_ok-behind.ensures
