@@ -7,10 +7,10 @@ use Rattle.hall.specs.Stages.{Stage, Question, None, only_at, at_each}
 use Rattle.hall.specs.Said.{Judged}
 use Rattle.hall.proofs.Compose.{refused_first, first_before, first_after}
 use Rattle.hall.proofs.Places.{none_only_at, stage_refuses, stage_ends}
-use Rattle.network.specs.Entries.{FirstRefused, all_passed, refused_at}
+use Rattle.network.specs.Entries.{FirstRefusal, all_passed, refused_at}
 
 pub each_judged : (s : Stage) (n : ℕ) {Answer : ℕ → Result Unit Refusal → Type 0} {c : Result Unit Refusal} →
-    FirstRefused Answer n c →
+    FirstRefusal Answer n c →
     ((k : ℕ) (c : Result Unit Refusal) → Answer k c → Judged (only_at k (at_each n s)) c) →
     Judged (at_each n s ∷ []) c
 each_judged s n (all_passed h) judged =

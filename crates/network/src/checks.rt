@@ -20,7 +20,7 @@ ghost use Rattle.hall.specs.Questions.{network_question, moves_question, checks_
 ghost use Rattle.hall.specs.Questions.{ends as ends_checks, move_ends};
 
 use crate::closed::{check_closed_node, is_closed};
-use crate::entries::check_each;
+use crate::entries::first_refusal;
 use crate::lanes::check_lane;
 use hall::{Ends, Fault, Job, JobNumbers, Network, Place, Refusal};
 
@@ -175,9 +175,9 @@ pub fn check_moves(job: &JobNumbers) -> Result<(), Refusal>
         job.order.len(),
         job.dwell,
     )?;
-    check_each(lanes.len() / 2, |k| check_lane(nodes, lanes, k))?;
-    check_each(closed.len(), |k| check_closed_node(nodes, closed, k))?;
-    check_each(carriers, |i| check_entry(nodes, closed, moves, i))
+    first_refusal(lanes.len() / 2, |k| check_lane(nodes, lanes, k))?;
+    first_refusal(closed.len(), |k| check_closed_node(nodes, closed, k))?;
+    first_refusal(carriers, |i| check_entry(nodes, closed, moves, i))
 }
 
 // A whole job: the same, then its order (7).
@@ -187,7 +187,7 @@ pub fn check_job(job: &JobNumbers) -> Result<(), Refusal>
     check_moves(job)?;
     let carriers = job.moves.len() / 2;
     let order = job.order;
-    check_each(order.len(), |p| check_place(carriers, order, Place(p)))
+    first_refusal(order.len(), |p| check_place(carriers, order, Place(p)))
 }
 
 // A network alone: 2 (nodes, lanes, closed nodes), then 3, then 12. It is checked as the job on it that has

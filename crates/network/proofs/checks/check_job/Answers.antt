@@ -11,5 +11,5 @@ returns c =
     let j : Numbers = job_in c.args.job.now in
     judged_then (moves_question j) (each_order_place (carriers j) j.order ∷ []) c.in_ok-check_moves.was
     c.check_moves.ensures
-    c.check_each.result
-    (each_judged (order_checks (carriers j) j.order) (length j.order) c.check_each.ensures (λ k r h. search rules))
+    c.first_refusal.result
+    (each_judged (order_checks (carriers j) j.order) (length j.order) c.first_refusal.ensures (λ k r h. search rules))
