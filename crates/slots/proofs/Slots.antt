@@ -10,7 +10,6 @@ use mathlib.Core.List.{List, map}
 use Prim.Native.Nat.{ℕ, ◌+◌, ◌≤◌, ◌<◌}
 use native.Mathlib.Decide.{ℕ_discrete, dec_lt}
 use native.Mathlib.Omega.{arith}
-use lib.Dec.{ltb, eqb, T}
 use lib.ListN.{length, get_or, set, length-set, length-map, get_or-map}
 use lib.Seq.{get_or-set_same, get_or-set_other}
 use borrow.Author.Tests.{lt-ltb, le-ltb, ne_eqb}
@@ -19,7 +18,7 @@ use Rattle.hall.proofs.Lowest.{dec_and}
 use Rattle.slots.specs.declared.Slot.{Slot}
 use Rattle.slots.specs.Record.{slot_count, free, slot_is_free, slot_at, Held, Standing, last_tick}
 use Rattle.slots.specs.Record.{forgotten, forgetting, LowestFree}
-use Rattle.slots.specs.Refusals.{BadSlot, BadHeld, SomeBadSlot}
+use Rattle.slots.specs.Refusals.{BadHeld, SomeBadSlot}
 
 -- ---- free or not
 

@@ -8,7 +8,7 @@ use Prim.Native.Nat.{ℕ, ◌≤◌, ◌<◌}
 use native.Mathlib.Nat.{le_antisymm}
 use native.Mathlib.Decide.{dec_lt}
 use native.Mathlib.Omega.{arith}
-use Rattle.std.specs.Prelude.{Option, Some, None, Result}
+use Rattle.std.specs.Prelude.{Option, Some, Result}
 use Rattle.hall.specs.declared.Refusal.{Refusal}
 use Rattle.hall.specs.Rule.{Answers}
 use Rattle.hall.specs.Said.{Judged}
