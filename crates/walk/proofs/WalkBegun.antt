@@ -10,15 +10,16 @@
 use mathlib.Core.Path.{◌≡◌, ◌∙◌}
 use mathlib.Core.Logic.{◌≢◌}
 use mathlib.Core.List.{List, ◌++◌}
-use Prim.Native.Nat.{ℕ, ◌+◌, ◌-◌, ◌≤◌, ◌<◌}
+use Prim.Native.Nat.{ℕ, ◌≤◌, ◌<◌}
 use native.Mathlib.Decide.{ℕ_discrete}
 use native.Mathlib.Omega.{arith}
-use lib.ListN.{length, get_or, set, replicate, drop, length-set, length-append, length-replicate, length-drop, get_or-replicate, get_or-append}
-use lib.Seq.{get_or-set_same, get_or-set_other, get_or-append-add, get_or-drop}
+use lib.ListN.{length, get_or, set, replicate, drop, length-set, length-replicate, get_or-replicate}
+use lib.Seq.{get_or-set_same, get_or-set_other}
 use Rattle.hall.specs.Limits.{no_walk_mark}
 use Rattle.hall.specs.Floor.{here, Network, Closed, Open}
 use Rattle.hall.proofs.FloorTests as tests
 use Rattle.hall.proofs.Test.{dec}
+use Rattle.walk.proofs.WalkMarks.{front_length, front_below, front_beyond}
 use Rattle.walk.specs.Sweep.{unreached_mark, Shut, Labelled, unreached, reached, shut, AllLabelled, OnlyFell}
 
 pub record Begun (N : Network) (source : ℕ) (row₀ row : List ℕ) : Type 0 where
@@ -29,30 +30,23 @@ pub record Begun (N : Network) (source : ℕ) (row₀ row : List ℕ) : Type 0 w
   pub beyond : (v : ℕ) → N.nodes ≤ v → get_or row v 0 ≡ get_or row₀ v 0
 
 module _ (nodes : ℕ) (row₀ : List ℕ) (wide : nodes ≤ length row₀) where
-  marks : List ℕ
-  marks = replicate nodes unreached_mark
-
   blank : List ℕ
   blank = replicate nodes unreached_mark ++ drop nodes row₀
 
-  marks_length : length marks ≡ nodes
-  unfolding marks
-  marks_length = length-replicate {A = ℕ} nodes unreached_mark
+  sized : length (replicate nodes unreached_mark) ≡ nodes
+  sized = length-replicate {A = ℕ} nodes unreached_mark
 
   blank_length : length blank ≡ length row₀
   unfolding blank
-  blank_length = simp (length-append, length-replicate, length-drop) (omega arith)
+  blank_length = front_length (replicate nodes unreached_mark) row₀ sized wide
 
   blank_below : (v : ℕ) → v < nodes → get_or blank v 0 ≡ unreached_mark
-  unfolding blank marks
-  blank_below v h = get_or-append marks (drop nodes row₀) 0 v (rw marks_length h) ∙ get_or-replicate nodes v unreached_mark 0 h
+  unfolding blank
+  blank_below v h = front_below (replicate nodes unreached_mark) row₀ sized v h ∙ get_or-replicate nodes v unreached_mark 0 h
 
   blank_beyond : (v : ℕ) → nodes ≤ v → get_or blank v 0 ≡ get_or row₀ v 0
-  unfolding blank marks
-  blank_beyond v h =
-      let e : length marks + (v - nodes) ≡ v = omega (arith, marks_length) in
-      let f : nodes + (v - nodes) ≡ v = omega arith in
-      (rw e at (get_or-append-add marks (drop nodes row₀) (v - nodes) 0)) ∙ (rw f at (get_or-drop nodes row₀ (v - nodes) 0))
+  unfolding blank
+  blank_beyond = front_beyond (replicate nodes unreached_mark) row₀ sized
 
 -- the row once the closed nodes have their mark
 module _ (N : Network) (row₀ : List ℕ) (wide : N.nodes ≤ length row₀) {blank₀ row : List ℕ} (is_blank : blank₀ ≡ replicate N.nodes unreached_mark ++ drop N.nodes row₀)

@@ -10,8 +10,8 @@ use mathlib.Core.Path.{◌≡◌, refl}
 use mathlib.Core.Logic.{◌⊎◌, inl, inr}
 use mathlib.Core.Bool.{Bool, true}
 use mathlib.Core.List.{List}
-use Prim.Native.Nat.{ℕ, ◌+◌, ◌*◌, ◌≤◌, ◌<◌}
-use native.Mathlib.Decide.{ℕ_discrete}
+use Prim.Native.Nat.{ℕ, ◌+◌, ◌*◌, ◌≤◌, ◌<◌, max}
+use native.Mathlib.Decide.{ℕ_discrete, dec_lt}
 use native.Mathlib.Omega.{arith}
 use borrow.Author.Tests.{ltb-true}
 use lib.Dec.{ltb}
@@ -28,21 +28,19 @@ top_none numbers = record { most = λ j h. absurd (let z : ⊥ = omega arith in 
 
 module _ {numbers : List ℕ} {i top : ℕ} (t : Top numbers i top) where
   -- the next number is greater, or it is not
-  pub top_more : (top' : ℕ) → ((top < get_or numbers i 0) × (top' ≡ get_or numbers i 0)) ⊎ ((get_or numbers i 0 ≤ top) × (top' ≡ top)) → Top numbers (i + 1) top'
-  top_more top' (inl x) = record { most = λ j h. most j h (ℕ_discrete j i); listed = inr (i, omega arith, omega (arith, x.1)) }
+  pub top_more : Top numbers (i + 1) (max (get_or numbers i 0) top)
+  top_more = record { most = λ j h. most j h (ℕ_discrete j i); listed = listed (dec_lt top (get_or numbers i 0)) }
     where
-      most : (j : ℕ) → j < i + 1 → Dec (j ≡ i) → get_or numbers j 0 ≤ top'
-      most j h (yes e) = rw e (omega (arith, x.1))
-      most j h (no e) = omega (arith, t.most j (omega arith), x.0, x.1)
-  top_more top' (inr x) = record { most = λ j h. most j h (ℕ_discrete j i); listed = rw x.1 (listed t.listed) }
-    where
-      most : (j : ℕ) → j < i + 1 → Dec (j ≡ i) → get_or numbers j 0 ≤ top'
-      most j h (yes e) = rw e (omega (arith, x.0, x.1))
-      most j h (no e) = omega (arith, t.most j (omega arith), x.1)
+      most : (j : ℕ) → j < i + 1 → Dec (j ≡ i) → get_or numbers j 0 ≤ max (get_or numbers i 0) top
+      most j h (yes e) = rw e (omega arith)
+      most j h (no e) = omega (arith, t.most j (omega arith))
 
-      listed : (top ≡ 0) ⊎ ((j : ℕ) × (j < i) × (get_or numbers j 0 ≡ top)) → (top ≡ 0) ⊎ ((j : ℕ) × (j < i + 1) × (get_or numbers j 0 ≡ top))
-      listed (inl e) = inl e
-      listed (inr y) = inr (y.0, omega (arith, y.1), y.2)
+      listed : Dec (top < get_or numbers i 0) → (max (get_or numbers i 0) top ≡ 0) ⊎ ((j : ℕ) × (j < i + 1) × (get_or numbers j 0 ≡ max (get_or numbers i 0) top))
+      listed (yes h) = inr (i, omega arith, omega arith)
+      listed (no h) = elim t.listed [
+        | inl e ↦ inl (omega arith)
+        | inr y ↦ inr (y.0, omega (arith, y.1), omega (arith, y.2))
+      ]
 
   pub top_all : i ≡ length numbers → Greatest numbers top
   top_all e = record { most = λ j h. t.most j (omega arith); listed = rw e at t.listed }

@@ -63,14 +63,11 @@ fn shut(nodes: usize, closed: &[u16], row: &mut [u16])
     requires { nodes ≤ length row.old }
     ensures { Shut nodes closed.now row.old row.new }
 {
-    let count = closed.len();
-    let mut k: usize = 0;
-    while k < count {
-        let place = closed[k] as usize;
+    for &node in closed {
+        let place = node as usize;
         if place < nodes {
             row[place] = Job::NO_WALK;
         }
-        k += 1;
     }
 }
 
@@ -79,15 +76,10 @@ fn settle(nodes: usize, row: &mut [u16])
     requires { nodes ≤ length row.old }
     ensures { Settled nodes row.old row.new }
 {
-    let mut i: usize = 0;
-    while i < nodes {
-        let label = row[i];
-        row[i] = if label == UNREACHED {
-            Job::NO_WALK
-        } else {
-            label
-        };
-        i += 1;
+    for label in &mut row[..nodes] {
+        if *label == UNREACHED {
+            *label = Job::NO_WALK;
+        }
     }
 }
 
@@ -95,13 +87,9 @@ fn settle(nodes: usize, row: &mut [u16])
 fn greatest(numbers: &[u16]) -> u16
     ensures { Greatest numbers.now result }
 {
-    let count = numbers.len();
-    let mut top: u16 = 0;
-    let mut i: usize = 0;
-    while i < count {
-        let x = numbers[i];
-        top = if top < x { x } else { top };
-        i += 1;
+    let mut top = 0;
+    for &x in numbers {
+        top = x.max(top);
     }
     top
 }
@@ -164,10 +152,8 @@ fn sweep(
 {
     let count = lanes.len() / 2;
     let mut next: usize = 0;
-    let mut rest = todo;
-    while rest > 0 {
-        let done = count - rest;
-        rest -= 1;
+    for rest in (0..todo).rev() {
+        let done = count - 1 - rest;
         let k = if back { rest } else { done };
         let a = lanes[2 * k];
         let b = lanes[2 * k + 1];
@@ -186,10 +172,8 @@ fn spread(nodes: usize, lanes: &[u16], sum: usize, row: &mut [u16]) -> usize
     ensures { OnlyFell nodes lanes.now row.old row.new
         × (result ≤ lanes_in lanes.now) }
 {
-    let count = lanes.len() / 2;
     let mut fell: usize = 0;
-    let mut k: usize = 0;
-    while k < count {
+    for k in 0..lanes.len() / 2 {
         let a = lanes[2 * k];
         let b = lanes[2 * k + 1];
         let x = row[a as usize] as usize;
@@ -199,7 +183,6 @@ fn spread(nodes: usize, lanes: &[u16], sum: usize, row: &mut [u16]) -> usize
                 fell += 1;
             }
         }
-        k += 1;
     }
     fell
 }
@@ -220,14 +203,12 @@ fn spread_near(nodes: usize, clean: bool, lanes: &[u16], row: &mut [u16])
         return;
     }
     let mut before: usize = 0;
-    let mut far: usize = 0;
-    while far < ROUNDS {
+    for far in 0..ROUNDS {
         let fell = spread(nodes, lanes, UNREACHED as usize + far, row);
         if fell <= 2 * before {
             return;
         }
         before = fell;
-        far += 1;
     }
 }
 

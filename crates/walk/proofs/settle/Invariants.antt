@@ -1,10 +1,6 @@
--- The invariant of `settle` is `Settling`, and the measure is what is left of the nodes.
-use Rattle.std.proofs.Common.{◌-◌, ◌≤◌}
+-- The invariant of `settle` is `Settling`.
 use Rattle.walk.proofs.WalkMarks.{Settling}
 use Rattle.walk.proofs.settle.Given as goal
 
-abbrev pub invariant-loop-i : goal.invariant-loop-i
-invariant-loop-i l = (l.i ≤ l.nodes) × Settling l.initial.row l.row l.i
-
-abbrev pub decreases-loop-i : goal.decreases-loop-i
-decreases-loop-i l = l.nodes - l.i
+abbrev pub invariant-loop-label : goal.invariant-loop-label
+invariant-loop-label l = Settling l.initial.label-items l.label-items l.label-index

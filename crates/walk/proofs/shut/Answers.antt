@@ -5,16 +5,16 @@ use Rattle.walk.proofs.WalkMarks.{shutting_none, shutting_node, shutting_other, 
 use Rattle.walk.proofs.shut.Goals as goal
 use Rattle.walk.proofs.shut.Goals.{then-place-nodes, else-place-nodes}
 
-pub loop-k-init : goal.loop-k-init
-loop-k-init c = (omega arith, shutting_none c.args.nodes c.args.closed.now c.args.row.now)
+pub loop-node-init : goal.loop-node-init
+loop-node-init c = shutting_none c.args.nodes c.args.closed.now c.args.row.now
 
-pub loop-k-preserved : goal.loop-k-preserved
-loop-k-preserved c =
-    let s = c.loop-k.invariant.1 in
+pub loop-node-preserved : goal.loop-node-preserved
+loop-node-preserved c =
+    let s = c.loop-node.invariant in
     elim c.if-place-nodes.branch [
-      | then-place-nodes w ↦ (omega arith, rw w.row-is (shutting_node s c.requires (omega arith) w.if-place-nodes.true))
-      | else-place-nodes w ↦ (omega arith, rw w.row-is (shutting_other s w.if-place-nodes.false))
+      | then-place-nodes w ↦ rw w.row-is (shutting_node s c.requires (omega arith) w.if-place-nodes.true)
+      | else-place-nodes w ↦ rw w.row-is (shutting_other s w.if-place-nodes.false)
     ]
 
 pub returns : goal.returns
-returns c = shutting_all c.loop-k.invariant.1 (omega arith)
+returns c = shutting_all c.loop-node.invariant (omega arith)

@@ -6,16 +6,16 @@ use Rattle.walk.proofs.spread.Goals as goal
 use Rattle.walk.proofs.spread.Goals.{then-x-y+then-look, then-x-y+else-look, else-x-y}
 
 pub loop-k-init : goal.loop-k-init
-loop-k-init c = (only_fell_none, omega arith, omega arith)
+loop-k-init c = (only_fell_none, omega arith)
 
 pub loop-k-preserved : goal.loop-k-preserved
 loop-k-preserved c =
     let loop = c.loop-k in
     let wide : c.args.nodes ≤ length loop.row = omega arith in
     elim c.if-x-y.branch [
-      | then-x-y+then-look w ↦ (rw w.row-is (only_fell_then loop.invariant.0 (only_fell_look wide loop.k (omega arith) w.look.ensures)), omega arith, omega arith)
-      | then-x-y+else-look w ↦ (rw w.row-is (only_fell_then loop.invariant.0 (only_fell_look wide loop.k (omega arith) w.look.ensures)), omega arith, omega arith)
-      | else-x-y w ↦ (rw w.row-is loop.invariant.0, omega arith, omega arith)
+      | then-x-y+then-look w ↦ (rw w.row-is (only_fell_then loop.invariant.0 (only_fell_look wide loop.k (omega arith) w.look.ensures)), omega arith)
+      | then-x-y+else-look w ↦ (rw w.row-is (only_fell_then loop.invariant.0 (only_fell_look wide loop.k (omega arith) w.look.ensures)), omega arith)
+      | else-x-y w ↦ (rw w.row-is loop.invariant.0, omega arith)
     ]
 
 pub returns : goal.returns

@@ -15,7 +15,7 @@ here c =
     lanes_left_at (lanes_in c.args.lanes.now) c.args.back c.loop-rest.rest c.if-back.k (omega arith) (omega (arith, c.loop-rest.invariant.few))
     (elim c.if-back.branch [
       | then-back w ↦ inl (w.if-back.true, w.k-is)
-      | else-back w ↦ inr (w.if-back.false, w.k-is)
+      | else-back w ↦ inr (w.if-back.false, omega (arith, w.k-is))
     ])
 
 pub loop-rest-init : goal.loop-rest-init
@@ -53,7 +53,7 @@ look-requires c =
 pub loop-rest-preserved-then-look : goal.loop-rest-preserved-then-look
 loop-rest-preserved-then-look c =
     let lane = here (goal.at.loop-rest-preserved-then-look c).Joined-back in
-    sweeping_look c.loop-rest.invariant (omega arith) c.if-back.k lane.0 lane.1 c.requires.1.wide c.look.ensures (rw c.if-look.true)
+    sweeping_look c.loop-rest.invariant (omega arith) c.if-back.k lane.0 lane.1 c.requires.1.wide c.look.ensures (rw c.if-look.true (omega arith))
 
 pub loop-rest-preserved : goal.loop-rest-preserved
 loop-rest-preserved c =

@@ -4,6 +4,3 @@ use Rattle.walk.proofs.sweep.Given as goal
 
 abbrev pub invariant-loop-rest : goal.invariant-loop-rest
 invariant-loop-rest l = Sweeping l.nodes l.lanes l.back l.initial.row l.row l.rest l.next
-
-abbrev pub decreases-loop-rest : goal.decreases-loop-rest
-decreases-loop-rest l = l.rest
