@@ -12,7 +12,7 @@ use mathlib.Core.Path.{◌≡◌}
 use mathlib.Core.List.{List, [], ◌∷◌}
 use Prim.Native.Nat.{ℕ}
 use lib.ListN.{take}
-use Rattle.std.proofs.Common.{Result, Ok, tt}
+use Rattle.std.proofs.Common.{Result, Ok}
 use Rattle.hall.specs.declared.Refusal.{Refusal}
 use Rattle.hall.specs.Floor.{Network, floor}
 use Rattle.hall.specs.Job.{Numbers, start, goal}
