@@ -8,8 +8,8 @@ use mathlib.Core.List.{List, [], ◌∷◌, ◌++◌}
 use Prim.Native.Nat.{ℕ, ◌≤◌, ◌<◌}
 use native.Mathlib.Omega.{arith}
 use lib.ListN.{length, take}
-use Rattle.hall.specs.declared.Checked.{Checked}
-use Rattle.hall.specs.declared.Checked.TheVariants.{Sound, Refused}
+use Rattle.std.specs.Prelude.{Result, Ok, Err}
+use Rattle.hall.specs.declared.Refusal.{Refusal}
 use Rattle.hall.specs.Limits.{node_limit}
 use Rattle.hall.specs.Job.{Numbers, start, goal}
 use Rattle.hall.specs.Stages.{Question, here, later, None}
@@ -19,7 +19,6 @@ use Rattle.hall.specs.Questions.{asked_question, house_of_job, list_of_job}
 use Rattle.hall.proofs.Stages.{none_excludes, judged_unique}
 use Rattle.hall.proofs.Compose.{none_at_all, none_append, none_split, first_split, judged_after}
 use Rattle.hall.proofs.Places.{asked_clear, none_asked}
-use Rattle.path.specs.declared.Housed.TheVariants.{Nodes}
 use Rattle.path.specs.Paths.{Unfit, HouseLeft, Passes}
 use Rattle.path.proofs.Housing.{left_accepted}
 use Rattle.path.proofs.Agree.{house_passes}
@@ -43,12 +42,12 @@ module _ (j : Numbers) (c : ℕ) (path path' : List ℕ) (room : node_limit ≤ 
 
 -- ---- a list
 
-judged_rest : (a b : Question) → None a → (d : Checked) → Judged (a ++ b) d → Judged b d
-judged_rest a b none Sound h = (none_split a b h).1
-judged_rest a b none (Refused r) h =
+judged_rest : (a b : Question) → None a → (d : Result Unit Refusal) → Judged (a ++ b) d → Judged b d
+judged_rest a b none (Ok u) h = (none_split a b h).1
+judged_rest a b none (Err r) h =
     elim (first_split a b h) [ here k ↦ absurd (none_excludes k none) | later m k ↦ k ]
 
-pub list_of_move_lem : (j : Numbers) (c : ℕ) → None (asked_question j c) → (U : Type 0) (d : Checked)
+pub list_of_move_lem : (j : Numbers) (c : ℕ) → None (asked_question j c) → (U : Type 0) (d : Result Unit Refusal)
     → Judged (list_of_move j.network (start j c) (goal j c) U) d → Judged (list_of_job j c U) d
 list_of_move_lem j c none U d h =
     judged_after (asked_question j c) (unfit U ∷ []) none d
@@ -56,10 +55,10 @@ list_of_move_lem j c none U d h =
 
 -- ---- the questions agree
 
-pub house_found_sound : {j j' j'' : Numbers} {c : ℕ} {path path' list' : List ℕ} {count : ℕ} {r : Checked} →
-    HouseAsked j j' c path path' (Nodes count) → ListAsked j j'' c (take count path') list' r → r ≡ Sound
+pub house_found_sound : {j j' j'' : Numbers} {c : ℕ} {path path' list' : List ℕ} {count : ℕ} {r : Result Unit Refusal} →
+    HouseAsked j j' c path path' (Ok count) → ListAsked j j'' c (take count path') list' r → r ≡ Ok tt
 house_found_sound {j = j} {c = c} {path' = path'} {count = count} {r = r} house asked =
-    judged_unique (list_of_job j c (Unfit j.network (start j c) (goal j c) (take count path'))) r Sound
+    judged_unique (list_of_job j c (Unfit j.network (start j c) (goal j c) (take count path'))) r (Ok tt)
     asked.judged (none_append none (asked_clear (λ u. u passes.shortest) none_at_all))
   where
     none : None (asked_question j c)

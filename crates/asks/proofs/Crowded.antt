@@ -5,7 +5,8 @@
 use mathlib.Core.List.{List, [], ◌∷◌}
 use Prim.Native.Nat.{ℕ, ◌<◌}
 use lib.ListN.{length}
-use Rattle.hall.specs.declared.Checked.{Checked}
+use Rattle.std.specs.Prelude.{Result}
+use Rattle.hall.specs.declared.Refusal.{Refusal}
 use Rattle.hall.specs.Limits.{node_limit, carrier_limit}
 use Rattle.hall.specs.Floor.{Network}
 use Rattle.hall.specs.Job.{job_of, move_count, start_in, goal_in}
@@ -39,7 +40,7 @@ module _ (N : Network) (order : List ℕ) (dwell : ℕ) (moves moves' : List ℕ
   crowded_house path path' (refused n p) h =
       ((⇒-behind (short_table (length path < node_limit)) asked_alike).firsts n p h.0, h.1)
 
-  pub crowded_list : (list : List ℕ) (r : Checked)
+  pub crowded_list : (list : List ℕ) (r : Result Unit Refusal)
       → Judged (list_of_job (job_of N moves order dwell) c
       (Unfit N (start_in moves c) (goal_in moves c) list)) r
       → Judged (list_of_job (job_of N moves' order dwell) c

@@ -7,8 +7,8 @@ use mathlib.Core.Logic.{◌↔◌}
 use mathlib.Core.List.{List, [], ◌∷◌}
 use Prim.Native.Nat.{ℕ, ◌<◌}
 use lib.ListN.{length}
-use Rattle.hall.specs.declared.Checked.{Checked}
-use Rattle.hall.specs.declared.Checked.TheVariants.{Sound}
+use Rattle.std.specs.Prelude.{Result, Ok}
+use Rattle.hall.specs.declared.Refusal.{Refusal}
 use Rattle.hall.specs.Limits.{node_limit}
 use Rattle.hall.specs.Floor.{floor}
 use Rattle.hall.specs.Job.{Numbers, start, goal}
@@ -19,7 +19,6 @@ use Rattle.hall.specs.Questions.{unfit, asked_question, house_of_job, list_of_jo
 use Rattle.hall.proofs.Stages.{judged_unique, refused_exactly}
 use Rattle.hall.proofs.Compose.{none_at_all, none_append, none_split, sound_none}
 use Rattle.hall.proofs.Places.{asked_clear}
-use Rattle.path.specs.declared.Housed.{Housed}
 use Rattle.path.specs.Paths.{Unfit, said_housed}
 use Rattle.path.proofs.Listed.{none_passes}
 use Rattle.path.proofs.Exactly.{left_refused_exactly, left_accepted_exactly}
@@ -28,7 +27,7 @@ use Rattle.asks.proofs.OneOfJob.{move_sound}
 
 -- ---- the house path
 
-module _ {j j' : Numbers} {c : ℕ} {path path' : List ℕ} (r : Housed)
+module _ {j j' : Numbers} {c : ℕ} {path path' : List ℕ} (r : Result ℕ Refusal)
     (a : HouseAsked j j' c path path' r) where
   pub house_for_refused_exactly : (n p : ℕ)
       → (said_housed r ≡ refused n p) ↔ First (house_of_job (length path < node_limit) j c) n p
@@ -44,7 +43,7 @@ module _ {j j' : Numbers} {c : ℕ} {path path' : List ℕ} (r : Housed)
 
 -- ---- a list
 
-module _ {j j' : Numbers} {c : ℕ} {list list' : List ℕ} (r : Checked)
+module _ {j j' : Numbers} {c : ℕ} {list list' : List ℕ} (r : Result Unit Refusal)
     (a : ListAsked j j' c list list' r) where
   abbrev Shortest : Type 0
   Shortest = ShortestPath (floor j.network) (start j c) (goal j c) list
@@ -55,10 +54,10 @@ module _ {j j' : Numbers} {c : ℕ} {list list' : List ℕ} (r : Checked)
   pub judge_for_refused_exactly : (n p : ℕ) → (said_checked r ≡ refused n p) ↔ First (list_of_job j c Misfit) n p
   judge_for_refused_exactly = refused_exactly (said_checked r) a.judged
 
-  pub judge_for_sound_exactly : (r ≡ Sound) ↔ (None (asked_question j c) × Shortest)
+  pub judge_for_sound_exactly : (r ≡ Ok tt) ↔ (None (asked_question j c) × Shortest)
   judge_for_sound_exactly = (forth, back)
     where
-      forth : r ≡ Sound → None (asked_question j c) × Shortest
+      forth : r ≡ Ok tt → None (asked_question j c) × Shortest
       forth e =
           let none = sound_none (list_of_job j c Misfit) e a.judged in
           let parts = none_split (asked_question j c) (unfit Misfit ∷ []) none in (
@@ -67,7 +66,7 @@ module _ {j j' : Numbers} {c : ℕ} {list list' : List ℕ} (r : Checked)
                 (none_append (move_sound j c parts.0) parts.1)).shortest,
           )
 
-      back : None (asked_question j c) × Shortest → r ≡ Sound
+      back : None (asked_question j c) × Shortest → r ≡ Ok tt
       back h =
-          judged_unique (list_of_job j c Misfit) r Sound a.judged
+          judged_unique (list_of_job j c Misfit) r (Ok tt) a.judged
           (none_append h.0 (asked_clear (λ u. u h.1) none_at_all))

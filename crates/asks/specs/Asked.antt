@@ -5,19 +5,24 @@
 --     HouseAsked    the answer to the question for the house path of the carrier's move: that path, as
 --                   `House` of the crate `path` has it, or the first fault and what that leaves in the list
 --     ListAsked     the answer to the question about one list
+--     MoveFound     nothing of the job or the number is at fault, and these are the ends of the carrier's move
+--     MoveAsked     what both questions begin with: the carrier's move, or the first fault of job and number
+--     WalkFrom      what the search for one walk starts from: at most 1,024 nodes, and two numbers among them
 --     Walkable      what the search for 8 starts from: at most 1,024 nodes, and every start and goal an open
 --                   one of them
-use Rattle.std.specs.Prelude.{◌≡◌, List, ℕ, ◌≤◌, ◌<◌, length}
-use Rattle.hall.specs.declared.Checked.{Checked}
+use Rattle.std.specs.Prelude.{◌≡◌, List, ℕ, ◌≤◌, ◌<◌, length, Result, Ok, Err}
+use Rattle.hall.specs.declared.Ends.{Ends}
+use Rattle.hall.specs.declared.Refusal.{Refusal}
+use Rattle.hall.specs.Numbers.{number_of}
 use Rattle.hall.specs.Limits.{node_limit}
 use Rattle.hall.specs.Floor.{Network, floor}
 use Rattle.hall.specs.Job.{Numbers, start, goal, EndsOn}
+use Rattle.hall.specs.Stages.{First, None}
 use Rattle.hall.specs.Said.{Judged}
-use Rattle.hall.specs.Questions.{house_of_job, list_of_job}
-use Rattle.path.specs.declared.Housed.{Housed}
+use Rattle.hall.specs.Questions.{asked_question, house_of_job, list_of_job}
 use Rattle.path.specs.Paths.{Unfit, said_housed, HouseLeft}
 
-pub record HouseAsked (j j' : Numbers) (c : ℕ) (path path' : List ℕ) (r : Housed) : Type 0 where
+pub record HouseAsked (j j' : Numbers) (c : ℕ) (path path' : List ℕ) (r : Result ℕ Refusal) : Type 0 where
   pub given : HouseLeft
       (house_of_job (length path < node_limit) j c)
       j.network (start j c) (goal j c)
@@ -25,10 +30,24 @@ pub record HouseAsked (j j' : Numbers) (c : ℕ) (path path' : List ℕ) (r : Ho
       (said_housed r)
   pub job_kept : j' ≡ j
 
-pub record ListAsked (j j' : Numbers) (c : ℕ) (list list' : List ℕ) (r : Checked) : Type 0 where
+pub record ListAsked (j j' : Numbers) (c : ℕ) (list list' : List ℕ) (r : Result Unit Refusal) : Type 0 where
   pub judged : Judged (list_of_job j c (Unfit j.network (start j c) (goal j c) list)) r
   pub job_kept : j' ≡ j
   pub list_kept : list' ≡ list
+
+pub record MoveFound (j : Numbers) (c : ℕ) (ends : Ends) : Type 0 where
+  pub no_fault : None (asked_question j c)
+  pub start_is : ends.start ≡ start j c
+  pub goal_is : ends.goal ≡ goal j c
+
+abbrev pub MoveAsked : Numbers → ℕ → Result Ends Refusal → Type 0
+MoveAsked j c (Ok ends) = MoveFound j c ends
+MoveAsked j c (Err r) = First (asked_question j c) (number_of r.fault) r.place
+
+pub record WalkFrom (N : Network) (s g : ℕ) : Type 0 where
+  pub few : N.nodes ≤ node_limit
+  pub start_numbered : s < N.nodes
+  pub goal_numbered : g < N.nodes
 
 pub record Walkable (N : Network) (moves : List ℕ) : Type 0 where
   pub few : N.nodes ≤ node_limit

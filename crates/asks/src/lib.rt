@@ -6,168 +6,113 @@
 // Cost: a distance walk for each carrier, at most 64, and then that of the question itself.
 #![tactic(auto)]
 
-ghost use Rattle.std.specs.Prelude.{[], ◌∷◌, ◌≤◌, ◌<◌};
-ghost use Rattle.hall.specs.Limits.{node_limit};
-ghost use Rattle.hall.specs.Floor.{NoWalk, network_of, floor};
-ghost use Rattle.hall.specs.Job.{job_of};
+ghost use Rattle.std.specs.Prelude.{◌≡◌, [], ◌∷◌, ◌/◌, ◌<◌, length};
+ghost use Rattle.hall.specs.Floor.{NoWalk, network_in, floor};
+ghost use Rattle.hall.specs.Job.{start_in, goal_in, job_in};
 ghost use Rattle.hall.specs.Rule.{Answers};
 ghost use Rattle.hall.specs.Said.{Judged};
 ghost use Rattle.hall.specs.Questions.{each_walk, lacking, asked_question};
-ghost use Rattle.asks.specs.Asked.{HouseAsked, ListAsked, Walkable};
+ghost use Rattle.asks.specs.Asked.{HouseAsked, ListAsked, MoveAsked, WalkFrom, Walkable};
 
-use hall::{Carrier, Checked, Fault, Job, Refusal};
-use path::Housed;
+use hall::zero::fill_first;
+use hall::{Carrier, Ends, Fault, Job, JobNumbers, Network, Refusal};
 
 // Whether no walk joins start and goal.
-fn cut_off(nodes: usize, lanes: &[u16], closed: &[u16], start: u16, goal: u16) -> bool
-    requires { (nodes ≤ node_limit)
-        × (start < nodes)
-        × (goal < nodes) }
-    ensures { Answers result (NoWalk
-        (floor (network_of nodes lanes.now closed.now))
-        start goal) }
+fn cut_off(network: &Network, ends: Ends) -> bool
+    requires { WalkFrom (network_in network.now) ends.start ends.goal }
+    ensures { Answers result (NoWalk (floor (network_in network.now)) ends.start ends.goal) }
 {
     let mut row: [u16; Job::NODES] = [0; Job::NODES];
-    walk::distances(nodes, lanes, closed, start, &mut row);
-    let there = goal as usize;
-    let distance = row[there];
-    if distance == Job::NO_WALK {
-        return true;
+    walk::distances(network, ends.start, &mut row);
+    row[ends.goal as usize] == Job::NO_WALK
+}
+
+// The start and the goal of the move with a number.
+fn move_of(moves: &[u16], number: usize) -> Ends
+    requires { number < length moves.now / 2 }
+    ensures start { result.start ≡ start_in moves.now number }
+    ensures goal { result.goal ≡ goal_in moves.now number }
+{
+    let at = 2 * number;
+    Ends {
+        start: moves[at],
+        goal: moves[at + 1],
     }
-    false
 }
 
 // 8: the lowest carrier number that no walk takes from its start to its goal.
-fn check_reach(nodes: usize, lanes: &[u16], closed: &[u16], moves: &[u16]) -> Checked
-    requires { Walkable (network_of nodes lanes.now closed.now) moves.now }
-    ensures { Judged
-        (each_walk (network_of nodes lanes.now closed.now) moves.now ∷ [])
-        result }
+fn check_reach(network: &Network, moves: &[u16]) -> Result<(), Refusal>
+    requires { Walkable (network_in network.now) moves.now }
+    ensures { Judged (each_walk (network_in network.now) moves.now ∷ []) result }
 {
-    let count = moves.len() / 2;
-    let mut i: usize = 0;
-    while i < count {
-        let at = 2 * i;
-        let start = moves[at];
-        let goal = moves[at + 1];
-        if cut_off(nodes, lanes, closed, start, goal) {
-            return Checked::Refused(Refusal::new(Fault::Unreachable, i));
+    for i in 0..moves.len() / 2 {
+        if cut_off(network, move_of(moves, i)) {
+            return Err(Refusal::new(Fault::Unreachable, i));
         }
-        i += 1;
     }
-    Checked::Sound
+    Ok(())
 }
 
 // 10: whether the job has the carrier that a question names.
-fn check_number(carriers: usize, carrier: Carrier) -> Checked
+fn check_number(carriers: usize, carrier: Carrier) -> Result<(), Refusal>
     ensures { Judged (lacking carriers carrier.0 ∷ []) result }
 {
     let number = carrier.0 as usize;
     if number >= carriers {
-        return Checked::Refused(Refusal::new(Fault::NoCarrier, number));
+        return Err(Refusal::new(Fault::NoCarrier, number));
     }
-    Checked::Sound
+    Ok(())
 }
 
 // A job and a carrier number: the listed checks of the job, 8 at the lowest carrier without a walk,
 // and last 10.
-pub fn check_asked(
-    nodes: usize,
-    lanes: &[u16],
-    closed: &[u16],
-    moves: &[u16],
-    order: &[u16],
-    dwell: usize,
-    carrier: Carrier,
-) -> Checked
-    ensures { Judged
-        (asked_question
-        (job_of
-        (network_of nodes lanes.now closed.now)
-        moves.now order.now dwell)
-        carrier.0)
-        result }
+pub fn check_asked(job: &JobNumbers, carrier: Carrier) -> Result<(), Refusal>
+    ensures { Judged (asked_question (job_in job.now) carrier.0) result }
 {
-    let job = network::checks::check_job(nodes, lanes, closed, moves, order, dwell);
-    let number = check_number(moves.len() / 2, carrier);
-    if let Checked::Refused(_) = job {
-        return job;
-    }
-    let reach = check_reach(nodes, lanes, closed, moves);
-    if let Checked::Refused(_) = reach {
-        return reach;
-    }
-    number
+    network::checks::check_job(job)?;
+    check_reach(&job.network, job.moves)?;
+    check_number(job.moves.len() / 2, carrier)
+}
+
+// The carrier's move, where neither the job nor the number is at fault.
+fn asked_move(job: &JobNumbers, carrier: Carrier) -> Result<Ends, Refusal>
+    ensures { MoveAsked (job_in job.now) carrier.0 result }
+{
+    check_asked(job, carrier)?;
+    Ok(move_of(job.moves, carrier.0 as usize))
 }
 
 // The house path of one carrier's move, into a list of 1,024 places at least; past its end they become zero.
-pub fn house_for(
-    nodes: usize,
-    lanes: &[u16],
-    closed: &[u16],
-    moves: &[u16],
-    order: &[u16],
-    dwell: usize,
-    carrier: Carrier,
-    path: &mut [u16],
-) -> Housed
+pub fn house_for(job: &JobNumbers, carrier: Carrier, path: &mut [u16]) -> Result<usize, Refusal>
     ensures { HouseAsked
-        (job_of
-        (network_of nodes lanes.now closed.now)
-        moves.now order.now dwell)
-        (job_of
-        (network_of nodes lanes.now closed.now)
-        moves.now order.now dwell)
+        (job_in job.now)
+        (job_in job.now)
         carrier.0
         path.old path.new
         result }
 {
-    let room = path.len();
-    if room < Job::NODES {
-        return Housed::Refused(Refusal::new(Fault::ShortTable, 0));
+    if path.len() < Job::NODES {
+        return Err(Refusal::new(Fault::ShortTable, 0));
     }
-    let asked = check_asked(nodes, lanes, closed, moves, order, dwell, carrier);
-    if let Checked::Refused(refusal) = asked {
-        hall::zero::zero_first(path, Job::NODES);
-        return Housed::Refused(refusal);
+    match asked_move(job, carrier) {
+        Ok(ends) => path::house(&job.network, ends, path),
+        Err(refusal) => {
+            fill_first(path, Job::NODES, 0);
+            Err(refusal)
+        }
     }
-    let number = carrier.0 as usize;
-    let at = 2 * number;
-    let start = moves[at];
-    let goal = moves[at + 1];
-    path::house(nodes, lanes, closed, start, goal, path)
 }
 
 // Whether a proposed list is a shortest path of one carrier's move. Where neither the job nor the number is
 // at fault, it is refused with 11 exactly if it is none, whoever made it.
-pub fn judge_for(
-    nodes: usize,
-    lanes: &[u16],
-    closed: &[u16],
-    moves: &[u16],
-    order: &[u16],
-    dwell: usize,
-    carrier: Carrier,
-    list: &[u16],
-) -> Checked
+pub fn judge_for(job: &JobNumbers, carrier: Carrier, list: &[u16]) -> Result<(), Refusal>
     ensures { ListAsked
-        (job_of
-        (network_of nodes lanes.now closed.now)
-        moves.now order.now dwell)
-        (job_of
-        (network_of nodes lanes.now closed.now)
-        moves.now order.now dwell)
+        (job_in job.now)
+        (job_in job.now)
         carrier.0
         list.now list.now
         result }
 {
-    let asked = check_asked(nodes, lanes, closed, moves, order, dwell, carrier);
-    if let Checked::Refused(_) = asked {
-        return asked;
-    }
-    let number = carrier.0 as usize;
-    let at = 2 * number;
-    let start = moves[at];
-    let goal = moves[at + 1];
-    path::judge(nodes, lanes, closed, start, goal, list)
+    let ends = asked_move(job, carrier)?;
+    path::judge(&job.network, ends, list)
 }
