@@ -66,16 +66,14 @@ pub fn plan_moves(
 {
     receive(job, table, distances, ticks)?;
     match measure(&job.network, job.moves, table, distances) {
-        Ok(_) => {}
+        Ok(()) => {}
         Err(Unmeasured::Lost(carrier)) => {
             return Err(Refusal::new(Fault::Unreachable, carrier.0 as usize));
         }
-        // What is received is served: no call comes here.
-        Err(Unmeasured::Unserved) => return Ok(0),
+        // What is received is served.
+        Err(Unmeasured::Unserved) => unreachable!(),
     }
-    match start_ticks(table, job.order, job.dwell, ticks) {
-        Some(cost) => Ok(cost),
-        // What is received and measured is served: no call comes here.
-        None => Ok(0),
-    }
+    // What is received and measured is served.
+    let cost = start_ticks(table, job.order, job.dwell, ticks).unwrap();
+    Ok(cost)
 }
