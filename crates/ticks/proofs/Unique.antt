@@ -6,7 +6,7 @@
 -- `cost` is an equation. Assumes nothing.
 --     timing_unique       two outcomes of `start_ticks` that fit its promise are equal
 --     gathering_unique    so are two of `gather`
-use mathlib.Core.Path.{◌≡◌, refl, sym, ap, subst, ◌∙◌}
+use mathlib.Core.Path.{◌≡◌, refl, sym, ap, ◌∙◌}
 use mathlib.Core.Bool.{Bool, true, false}
 use mathlib.Core.List.{List}
 use Prim.Native.Nat.{ℕ, ◌<◌}

@@ -21,8 +21,7 @@ ghost use Rattle.ticks.specs.Gathering.{GatherServed, Gathering};
 ghost use Rattle.ticks.specs.Steps.{Early, PlacedNext, PlacedTo};
 
 use hall::{Carrier, Job, Place};
-use network::checks::check_place;
-use network::entries::check_each;
+use network::entries::{Entries, check_each};
 use rule::{Held, Pair, first_tick, hold};
 
 // The pair of carriers i and j, with the distances of the table.
@@ -66,27 +65,15 @@ fn gather_served(
     ensures { Answers result (GatherServed table.now order.now timed q.0 new.0 room) }
 {
     let end = q.0;
-    if table.len() < Job::TABLE {
+    if table.len() < Job::TABLE
+        || new.0 as usize >= Job::CARRIERS
+        || end > order.len()
+        || end > room
+    {
         return false;
     }
-    if new.0 as usize >= Job::CARRIERS {
-        return false;
-    }
-    if end > order.len() {
-        return false;
-    }
-    if end > room {
-        return false;
-    }
-    for placed in &order[..end] {
-        if *placed as usize >= Job::CARRIERS {
-            return false;
-        }
-        if *placed as usize >= timed {
-            return false;
-        }
-    }
-    true
+    order[..end].iter().all(|placed| (*placed as usize) < Job::CARRIERS
+        && (*placed as usize) < timed)
 }
 
 // The carriers at the places before q, each held with its tick and its pair with the new carrier, which need
@@ -171,11 +158,15 @@ fn served(table: &[u16], order: &[u16], dwell: usize, room: usize) -> bool
     ensures { Answers result (TicksServed table.now order.now dwell room) }
 {
     let count = order.len();
-    table.len() >= Job::TABLE
-        && count <= Job::CARRIERS
-        && room >= Job::CARRIERS
-        && dwell <= Job::DWELL
-        && check_each(count, |p| check_place(count, order, Place(p))).is_ok()
+    if table.len() < Job::TABLE
+        || count > Job::CARRIERS
+        || room < Job::CARRIERS
+        || dwell > Job::DWELL
+    {
+        return false;
+    }
+    // Of an order neither nodes nor closed nodes are asked for: any number and any list can stand for them.
+    check_each(Entries::Places, 0, count, order, order).is_ok()
 }
 
 // The start ticks by carrier number, and the cost. What is not served changes nothing.

@@ -1,17 +1,10 @@
 -- The invariant: the sum is that of the goal ticks of the first i carriers, and at most 4,295,032,830 for each of
--- them, since a tick has 32 bits and a distance 16. The measure is what is left of the carriers.
-use Rattle.std.proofs.Common.{◌*◌, ◌-◌, ◌≤◌, ◌≡◌, get_or}
-use Rattle.hall.specs.Limits.{carrier_limit}
+-- them, since a tick has 32 bits and a distance 16.
+use Rattle.std.proofs.Common.{◌*◌, ◌≤◌, ◌≡◌, get_or}
 use Rattle.hall.specs.Ticks.{cost_of}
 use Rattle.hall.specs.Plan.{tables_in}
 use Rattle.ticks.proofs.cost.Given as goal
 
 abbrev pub invariant-loop-i : goal.invariant-loop-i
 invariant-loop-i l =
-    (l.i ≤ l.k)
-    × (l.i ≤ carrier_limit)
-    × (l.sum ≤ 4295032830 * l.i)
-    × (l.sum ≡ cost_of (tables_in l.table) (λ j. get_or l.ticks j 0) l.i)
-
-abbrev pub decreases-loop-i : goal.decreases-loop-i
-decreases-loop-i l = l.k - l.i
+    (l.sum ≤ 4295032830 * l.i) × (l.sum ≡ cost_of (tables_in l.table) (λ j. get_or l.ticks j 0) l.i)

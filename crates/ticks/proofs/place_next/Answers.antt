@@ -10,8 +10,8 @@ use Rattle.ticks.proofs.Places.{next_early}
 use Rattle.ticks.proofs.place_next.Goals as goal
 use Rattle.ticks.proofs.place_next.Goals.{After-gather, After-first_tick-tick}
 
--- the gathered list has seven numbers for each place before q
-fits : (c : After-gather) → 7 * c.args.q.0 ≤ length c.gather.new.held
+-- the gathered list has the places before q
+fits : (c : After-gather) → c.args.q.0 ≤ length c.gather.new.held
 fits c =
     let a = c.args in
     let size =

@@ -14,19 +14,17 @@ cost_is : (c : After-cost-sum) →
     ≡ cost_of (tables_in c.args.table.now) (λ i. get_or c.place_all.new.ticks i 0) (length c.args.order.now)
 cost_is c = cost_whole c.if-not-served.ensures.listed c.place_all.new.ticks c.cost-sum.ensures
 
-pub overflow_cast-sum : goal.overflow_cast-sum
-overflow_cast-sum c =
-    let served = c.if-not-served.ensures in
+pub overflow_cast-result : goal.overflow_cast-result
+overflow_cast-result c =
     omega (
       arith,
-      cost_is c,
-      cost_fits served.listed c.place_all.new.ticks (λ x. omega (arith, c.type_inv.table x)) c.place_all.ensures.early,
+      cost_is (goal.at.overflow_cast-result c).After-cost-sum,
+      cost_fits c.if-not-served.ensures.listed c.place_all.new.ticks (λ x. omega (arith, c.type_inv.table x)) c.place_all.ensures.early,
     )
 
 pub returns : goal.returns
 returns c =
     let a = c.args in
     let all = c.place_all in
-    let served = c.if-not-served.ensures in
     placed_given a.table.now a.order.now a.dwell a.ticks.now all.new.ticks c.cost-sum.result
-    served all.ensures (cost_is (goal.at.returns c).After-cost-sum)
+    c.if-not-served.ensures all.ensures (cost_is (goal.at.returns c).After-cost-sum)
