@@ -12,6 +12,8 @@ use mathlib.Core.List.{List, [], ◌∷◌, ◌++◌}
 use Prim.Native.Nat.{ℕ, ◌<◌}
 use native.Mathlib.Omega.{arith}
 use lib.ListN.{length}
+use Rattle.std.proofs.Common.{Result}
+use Rattle.hall.specs.declared.Refusal.{Refusal}
 use Rattle.hall.specs.Limits.{text_room, table_length}
 use Rattle.hall.specs.Floor.{Network}
 use Rattle.hall.specs.Job.{Numbers, carriers, start, goal}
@@ -24,10 +26,8 @@ use Rattle.hall.proofs.Compose.{first_split, first_after, first_here}
 use Rattle.hall.proofs.Places.{each_first, none_asked, asked_clear}
 use Rattle.hall.proofs.Left.{Among, first_among}
 use Rattle.records.specs.declared.Record.{Record}
-use Rattle.planner.specs.declared.Planned.{Planned}
 use Rattle.planner.specs.Planning.{said_planned, Lent, ShortOf, Planning}
 use Rattle.planner.proofs.Exactly.{planning_refused_exactly}
-use Rattle.writer.specs.declared.Written.{Written}
 use Rattle.writer.specs.Writing.{said_written, Writing}
 use Rattle.recorded.specs.Job.{record_job}
 use Rattle.recorded.specs.Planning.{RecordPlanning}
@@ -168,7 +168,7 @@ pub both : {A B C : Type 0} → A ↔ B → B ↔ C → A ↔ C
 both x y = (λ a. y.0 (x.0 a), λ c. x.1 (y.1 c))
 
 module _ (N N' : Network) (records records' : List Record) (order order' : List ℕ) (dwell : ℕ)
-    (table table' : List ℕ) (r : Planned)
+    (table table' : List ℕ) (r : Result ℕ Refusal)
     (promise : RecordPlanning N N' records records' order order' dwell table table' r) (p : ℕ) where
   abbrev j : Numbers
   j = record_job N records order dwell
@@ -185,7 +185,7 @@ module _ (N N' : Network) (records records' : List Record) (order order' : List 
       both (plan_refused_exactly N N' records records' order order' dwell table table' r promise 13 p)
       (thirteen_planning j p (length table < table_length))
 
-module _ (j : Numbers) (before after : Lent) (r : Planned) (promise : Planning j before after (said_planned r))
+module _ (j : Numbers) (before after : Lent) (r : Result ℕ Refusal) (promise : Planning j before after (said_planned r))
     (p : ℕ) where
   pub numbers_twelve_exactly : (said_planned r ≡ refused 12 p) ↔ ((¬ ShortOf before) × ClosedEntryAt j p)
   numbers_twelve_exactly =
@@ -197,7 +197,7 @@ module _ (j : Numbers) (before after : Lent) (r : Planned) (promise : Planning j
       both (planning_refused_exactly j before after (said_planned r) promise 13 p)
       (thirteen_planning j p (ShortOf before))
 
-module _ (j : Numbers) (out out' : List ℕ) (r : Written) (promise : Writing j out out' (said_written r)) (p : ℕ) where
+module _ (j : Numbers) (out out' : List ℕ) (r : Result ℕ Refusal) (promise : Writing j out out' (said_written r)) (p : ℕ) where
   pub write_twelve_exactly : (said_written r ≡ refused 12 p) ↔ ((¬ (length out < text_room)) × ClosedEntryAt j p)
   write_twelve_exactly =
       both (write_refused_exactly j out out' r promise 12 p) (twelve_writing j p (length out < text_room))

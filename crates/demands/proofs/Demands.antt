@@ -41,9 +41,9 @@ use native.Mathlib.Omega.{arith}
 use lib.ListN.{length}
 use borrow.Author.Tests.{ne_eqb}
 use denote.Ref.{Bor}
+use Rattle.std.proofs.Common.{Result, Ok, Err}
 use Rattle.hall.specs.declared.Job.{Job}
-use Rattle.hall.specs.declared.Checked.{Checked}
-use Rattle.hall.specs.declared.Checked.TheVariants.{Sound}
+use Rattle.hall.specs.declared.Refusal.{Refusal}
 use Rattle.hall.specs.Limits.{node_limit, carrier_limit, lane_numbers, table_length}
 use Rattle.hall.specs.Floor.{NoWalk, Network, floor}
 use Rattle.hall.specs.Job.{Numbers, carriers, start, goal}
@@ -73,14 +73,10 @@ use Rattle.form.specs.Texts.{Refused as RefusedText}
 use Rattle.form.specs.JobText.{job_text}
 use Rattle.form.specs.Jobs.{WrittenJob}
 use Rattle.form.proofs.JobTexts.{refused_with}
-use Rattle.reader.specs.declared.Read.{Read}
 use Rattle.reader.specs.Reading.{said_read, counts_of, Reason, faulty}
 use Rattle.reader.proofs.Exactly.{by_form}
-use Rattle.path.specs.declared.Housed.{Housed}
 use Rattle.path.specs.Paths.{Unfit, said_housed, House, HouseAnswer, ListAnswer, Passes, ChoiceAnswer}
 use Rattle.path.proofs.Exactly as paths
-use Rattle.planner.specs.declared.Planned.{Planned}
-use Rattle.planner.specs.declared.Planned.TheVariants.{Cost, Refused}
 use Rattle.planner.specs.Planning.{said_planned}
 use Rattle.recorded.specs.Job.{record_job}
 use Rattle.recorded.specs.Reading.{LentShort, filled_records, GivenJob, ReadLeft, job_as_read}
@@ -93,7 +89,7 @@ use Rattle.recorded.proofs.Unique.{read_job_unique, plan_unique, planned_sound, 
 
 -- ---- demand 1: reading
 
-module _ (text lanes closed : List ℕ) (records : List Record) (order : List ℕ) (r s : Read)
+module _ (text lanes closed : List ℕ) (records : List Record) (order : List ℕ) (r s : Result Job Refusal)
     (t u l m cs ds : List ℕ) (rs qs : List Record) (o p : List ℕ) where
   pub one_reading : ReadLeft text t lanes l closed cs records rs order o r →
       ReadLeft text u lanes m closed ds records qs order p s →
@@ -101,7 +97,7 @@ module _ (text lanes closed : List ℕ) (records : List Record) (order : List �
   one_reading = read_job_unique text lanes closed records order r s t u l m cs ds rs qs o p
 
 module _ {text text' lanes lanes' closed closed' : List ℕ} {records records' : List Record}
-    {order order' : List ℕ} {r : Read}
+    {order order' : List ℕ} {r : Result Job Refusal}
     (a : ReadLeft text text' lanes lanes' closed closed' records records' order order' r) where
   -- a job's written form is accepted, with its counts and in tables that hold it, and nothing else is
   pub accepted_exactly : (j : Numbers) →
@@ -163,7 +159,7 @@ module _ {text text' lanes lanes' closed closed' : List ℕ} {records records' :
 -- before 8
 module _ (text text' lanes lanes' closed closed' : List ℕ) (records records' : List Record)
     (order order' : List ℕ) (counts : Job)
-    (promise : ReadLeft text text' lanes lanes' closed closed' records records' order order' (Read.Job counts)) where
+    (promise : ReadLeft text text' lanes lanes' closed closed' records records' order order' (Ok counts)) where
   pub accepted_text_written : WrittenJob text (job_as_read counts lanes' closed' records' order')
   accepted_text_written =
       read_is_written text lanes lanes' closed closed' records records' order order' counts promise.given
@@ -178,12 +174,12 @@ module _ (N N' : Network) (records records' : List Record) (order order' : List 
   j = record_job N records order dwell
 
   -- what `plan` promises of an answer r and of the lists that it leaves
-  abbrev Plans : Planned → Type 0
+  abbrev Plans : Result ℕ Refusal → Type 0
   Plans r = RecordPlanning N N' records records' order order' dwell table table' r
 
   -- ---- demand 1: planning
 
-  pub one_planning : (r s : Planned) (M : Network) (qs : List Record) (p u : List ℕ) → Plans r →
+  pub one_planning : (r s : Result ℕ Refusal) (M : Network) (qs : List Record) (p u : List ℕ) → Plans r →
       RecordPlanning N M records qs order p dwell table u s →
       (r ≡ s) × (N' ≡ M) × (records' ≡ qs) × (order' ≡ p) × (table' ≡ u)
   one_planning r s M qs p u = plan_unique N records order dwell table r s N' M records' qs order' p table' u
@@ -193,39 +189,39 @@ module _ (N N' : Network) (records records' : List Record) (order order' : List 
   given_fits (refused n p) a = a.first
 
   -- the number n at place p is answered exactly if it is the first fault of the list
-  pub plan_refused_exactly : (r : Planned) → Plans r → (n p : ℕ) →
+  pub plan_refused_exactly : (r : Result ℕ Refusal) → Plans r → (n p : ℕ) →
       (said_planned r ≡ refused n p) ↔ First (record_question j table) n p
   plan_refused_exactly r a = stages.refused_exactly (said_planned r) (given_fits (said_planned r) a.given)
 
   -- and a cost exactly if there is no fault
-  pub plan_accepted_exactly : (r : Planned) → Plans r →
-      ((cost : ℕ) × (r ≡ Cost cost)) ↔ None (record_question j table)
+  pub plan_accepted_exactly : (r : Result ℕ Refusal) → Plans r →
+      ((cost : ℕ) × (r ≡ Ok cost)) ↔ None (record_question j table)
   plan_accepted_exactly r a = (λ h. there h.0 h.1, back r a)
     where
-      there : (cost : ℕ) → r ≡ Cost cost → None (record_question j table)
-      there cost e = let b : Plans (Cost cost) = subst Plans e a in b.given.no_fault
+      there : (cost : ℕ) → r ≡ Ok cost → None (record_question j table)
+      there cost e = let b : Plans (Ok cost) = subst Plans e a in b.given.no_fault
 
-      back : (r : Planned) → Plans r → None (record_question j table) → (cost : ℕ) × (r ≡ Cost cost)
-      back (Cost cost) b none = (cost, refl)
-      back (Refused q) b none = absurd (none_excludes b.given.first none)
+      back : (r : Result ℕ Refusal) → Plans r → None (record_question j table) → (cost : ℕ) × (r ≡ Ok cost)
+      back (Ok cost) b none = (cost, refl)
+      back (Err q) b none = absurd (none_excludes b.given.first none)
 
   -- what is left in the table and the records
 
-  refused_as : (r : Planned) → Plans r → (n p : ℕ) → said_planned r ≡ refused n p →
+  refused_as : (r : Result ℕ Refusal) → Plans r → (n p : ℕ) → said_planned r ≡ refused n p →
       GivenRecords j records records' table table' (refused n p)
   refused_as r a n p e = rw e at a.given
 
-  pub nine_kept : (r : Planned) → Plans r → (p : ℕ) → said_planned r ≡ refused 9 p →
+  pub nine_kept : (r : Result ℕ Refusal) → Plans r → (p : ℕ) → said_planned r ≡ refused 9 p →
       (table' ≡ table) × (records' ≡ records)
   nine_kept r a p e = let g = refused_as r a 9 p e in (g.table_left, g.records_kept)
 
-  pub other_zeroed : (r : Planned) → Plans r → (n p : ℕ) → said_planned r ≡ refused n p → NotNine n →
+  pub other_zeroed : (r : Result ℕ Refusal) → Plans r → (n p : ℕ) → said_planned r ≡ refused n p → NotNine n →
       (table' ≡ zeroed table_length table) × (records' ≡ records)
   other_zeroed r a n p e other =
       let g = refused_as r a n p e in
       (g.table_left ∙ left_by_other n table_length table other, g.records_kept)
 
-  pub accepted_left : (cost : ℕ) → Plans (Cost cost) →
+  pub accepted_left : (cost : ℕ) → Plans (Ok cost) →
       TableLeft (carriers j) table table' × RecordsLeft (tables_in table') records records'
   accepted_left cost a = (a.given.table_left, a.given.records_left)
 
@@ -234,12 +230,12 @@ module _ (N N' : Network) (records records' : List Record) (order order' : List 
   pub every_job_once : PlannedOnce j ⊎ RefusedOnce j
   every_job_once = every_job j
 
-  pub accepted_once : (cost : ℕ) → Plans (Cost cost) → PlannedOnce j
+  pub accepted_once : (cost : ℕ) → Plans (Ok cost) → PlannedOnce j
   accepted_once cost a = planned_once j (none_asked a.given.no_fault).1
 
   -- ---- demand 2
 
-  module _ (cost : ℕ) (promise : Plans (Cost cost)) where
+  module _ (cost : ℕ) (promise : Plans (Ok cost)) where
     own_distance : (i : ℕ) → i < carriers j → distance_of records' i ≡ (tables_in table').sg i i
     own_distance i h = promise.given.records_left.distances i (rw (moves_count records) at h)
 
@@ -283,22 +279,22 @@ module _ (N N' : Network) (records records' : List Record) (order order' : List 
       cases (here x) = absurd (first_among (λ n. ¬ (n ≡ 8)) {q = before} (omega arith) x refl)
       cases (later k x) = in_walks x.in_turn
 
-  pub refused_unreached : (r : Planned) (p : ℕ) → Plans r → said_planned r ≡ refused 8 p →
+  pub refused_unreached : (r : Result ℕ Refusal) (p : ℕ) → Plans r → said_planned r ≡ refused 8 p →
       (p < carriers j) × NoWalk (floor N) (start j p) (goal j p)
   refused_unreached r p a e = first_eight p ((plan_refused_exactly r a 8 p).0 e)
 
-  pub unreached_refused : NoEarlierFault j table → (r : Planned) → Plans r → (i : ℕ) → i < carriers j →
+  pub unreached_refused : NoEarlierFault j table → (r : Result ℕ Refusal) → Plans r → (i : ℕ) → i < carriers j →
       NoWalk (floor N) (start j i) (goal j i) → (p : ℕ) × (said_planned r ≡ refused 8 p)
-  unreached_refused no-earlier (Cost c) a i h none =
+  unreached_refused no-earlier (Ok c) a i h none =
       absurd (walks_of_none j (none_asked a.given.no_fault).1 i h none)
-  unreached_refused no-earlier (Refused q) a i h none =
+  unreached_refused no-earlier (Err q) a i h none =
       let long : ¬ (length table < table_length) = λ l. omega (arith, no-earlier.long_table) in
       let eight = (only_eight j no-earlier.none_checked (first_past long a.given.first)).0 in
       (q.place, λ k. refused (eight k) q.place)
 
   -- ---- demand 3
 
-  module _ (cost : ℕ) (promise : Plans (Cost cost)) where
+  module _ (cost : ℕ) (promise : Plans (Ok cost)) where
     pub accepted_safe : (path : ℕ → List ℕ) →
         ((i : ℕ) → i < carriers j → ShortestPath (floor N) (start j i) (goal j i) (path i)) →
         Demand3 (floor N) dwell (carriers j) (start j) (goal j) (tables_in table') order (tick_of records') path
@@ -325,18 +321,18 @@ module _ (N : Network) (records : List Record) (order : List ℕ) (dwell c : ℕ
   asked-list list = list_of_job asked-job c (Unfit N (start asked-job c) (goal asked-job c) list)
 
   module _ (M O : Network) (rs qs : List Record) (o p : List ℕ) where
-    pub one_house : (path t u : List ℕ) (r s : Housed) →
+    pub one_house : (path t u : List ℕ) (r s : Result ℕ Refusal) →
         HouseOfRecords N M records rs order o dwell c path t r → HouseOfRecords N O records qs order p dwell c path u s →
         ((r ≡ s) × (t ≡ u)) × ((M ≡ O) × (rs ≡ qs) × (o ≡ p))
     one_house = house_unique N records order dwell c M O rs qs o p
 
-    pub one_judgement : (list t u : List ℕ) (r s : Checked) →
+    pub one_judgement : (list t u : List ℕ) (r s : Result Unit Refusal) →
         ListOfRecords N M records rs order o dwell c list t r → ListOfRecords N O records qs order p dwell c list u s →
         ((r ≡ s) × (t ≡ u)) × ((M ≡ O) × (rs ≡ qs) × (o ≡ p))
     one_judgement = judge_unique N records order dwell c M O rs qs o p
 
   module _ (N' : Network) (records' : List Record) (order' : List ℕ) where
-    module _ (path path' : List ℕ) (r : Housed)
+    module _ (path path' : List ℕ) (r : Result ℕ Refusal)
         (a : HouseOfRecords N N' records records' order order' dwell c path path' r) where
       abbrev house-question : Question
       house-question = house_of_job (length path < node_limit) asked-job c
@@ -359,18 +355,18 @@ module _ (N : Network) (records : List Record) (order : List ℕ) (dwell c : ℕ
           House N (start asked-job c) (goal asked-job c) path path' count
       house_laid count e = let b = rw e at a.given in b.1
 
-    module _ (list list' : List ℕ) (r : Checked)
+    module _ (list list' : List ℕ) (r : Result Unit Refusal)
         (a : ListOfRecords N N' records records' order order' dwell c list list' r) where
       pub list_refused_exactly : (n p : ℕ) → (said_checked r ≡ refused n p) ↔ First (asked-list list) n p
       list_refused_exactly = stages.refused_exactly (said_checked r) a.given
 
-      pub list_sound_exactly : (r ≡ Sound) ↔ None (asked-list list)
-      list_sound_exactly = (λ e. rw e at a.given, λ none. judged_unique (asked-list list) r Sound a.given none)
+      pub list_sound_exactly : (r ≡ Ok tt) ↔ None (asked-list list)
+      list_sound_exactly = (λ e. rw e at a.given, λ none. judged_unique (asked-list list) r (Ok tt) a.given none)
 
 -- ---- demand 1: one move
 
 module _ (N N' : Network) (s g : ℕ) where
-  module _ (path path' : List ℕ) (r : Housed) (a : HouseAnswer N N' s g path path' r) where
+  module _ (path path' : List ℕ) (r : Result ℕ Refusal) (a : HouseAnswer N N' s g path path' r) where
     pub move_house_refused_exactly : (n p : ℕ) →
         (said_housed r ≡ refused n p) ↔ First (house_of_move (length path < node_limit) N s g) n p
     move_house_refused_exactly = paths.house_refused_exactly r a
@@ -385,12 +381,12 @@ module _ (N N' : Network) (s g : ℕ) where
     pub move_house_laid : (count : ℕ) → said_housed r ≡ accepted count → House N s g path path' count
     move_house_laid count e = let b = rw e at a.given in b.1
 
-  module _ (list list' : List ℕ) (r : Checked) (a : ListAnswer N N' s g list list' r) where
+  module _ (list list' : List ℕ) (r : Result Unit Refusal) (a : ListAnswer N N' s g list list' r) where
     pub move_list_refused_exactly : (n p : ℕ) →
         (said_checked r ≡ refused n p) ↔ First (list_of_move N s g (Unfit N s g list)) n p
     move_list_refused_exactly = paths.list_refused_exactly r a
 
-    pub move_list_sound_exactly : (r ≡ Sound) ↔ Passes N s g list
+    pub move_list_sound_exactly : (r ≡ Ok tt) ↔ Passes N s g list
     move_list_sound_exactly = paths.list_sound_exactly r a
 
   module _ (own own' spare spare' r : Bor (List ℕ)) (a : ChoiceAnswer N N' s g own own' spare spare' r) where

@@ -21,8 +21,9 @@ use mathlib.Core.List.{List, [], ◌∷◌, ◌++◌}
 use Prim.Native.Nat.{ℕ, ◌≤◌, ◌<◌}
 use native.Mathlib.Omega.{arith}
 use lib.ListN.{length, take}
-use Rattle.hall.specs.declared.Checked.{Checked}
+use Rattle.std.proofs.Common.{Result, Ok, Err}
 use Rattle.hall.specs.declared.Job.{Job}
+use Rattle.hall.specs.declared.Refusal.{Refusal}
 use Rattle.hall.specs.Limits.{node_limit, dwell_limit, text_room, table_length}
 use Rattle.hall.specs.Floor.{Network, floor}
 use Rattle.hall.specs.Job.{Numbers, carriers, start, goal}
@@ -43,16 +44,10 @@ use Rattle.hall.proofs.Sound.{dwell_within, checks_of_none}
 use Rattle.hall.proofs.NoDwell.{demand3_plain}
 use Rattle.hall.proofs.DwellLimits.{within_greatest, within_plain}
 use Rattle.records.specs.declared.Record.{Record}
-use Rattle.reader.specs.declared.Read.{Read}
 use Rattle.reader.specs.Reading.{said_read, counts_of, AnyShort, ReadInto}
-use Rattle.path.specs.declared.Housed.{Housed}
 use Rattle.path.specs.Paths.{Unfit, said_housed}
-use Rattle.planner.specs.declared.Planned.{Planned}
-use Rattle.planner.specs.declared.Planned.TheVariants.{Cost}
 use Rattle.planner.specs.Planning.{said_planned, Lent, ShortOf, Planning}
 use Rattle.planner.proofs.Exactly.{planning_refused_exactly}
-use Rattle.writer.specs.declared.Written.{Written}
-use Rattle.writer.specs.declared.Written.TheVariants.{Bytes}
 use Rattle.writer.specs.Writing.{said_written, Writing}
 use Rattle.recorded.specs.Job.{record_job}
 use Rattle.recorded.specs.Reading.{LentShort, ReadLeft, job_as_read}
@@ -157,14 +152,14 @@ module _ (N N' : Network) (records records' : List Record) (order order' : List 
   j = record_job N records order dwell
 
   module _ (table table' : List ℕ) where
-    pub plan_dwell_exactly : (r : Planned) →
+    pub plan_dwell_exactly : (r : Result ℕ Refusal) →
         RecordPlanning N N' records records' order order' dwell table table' r →
         (said_planned r ≡ refused 2 5) ↔ ((¬ (length table < table_length)) × DwellOver j)
     plan_dwell_exactly r promise =
         both (plan_refused_exactly N N' records records' order order' dwell table table' r promise 2 5)
         (dwell_planning j (length table < table_length))
 
-    module _ (cost : ℕ) (promise : RecordPlanning N N' records records' order order' dwell table table' (Cost cost)) where
+    module _ (cost : ℕ) (promise : RecordPlanning N N' records records' order order' dwell table table' (Ok cost)) where
       pub accepted_dwell : dwell ≤ dwell_limit
       accepted_dwell = dwell_within j (planned_sound j table promise.given.no_fault)
 
@@ -174,33 +169,33 @@ module _ (N N' : Network) (records records' : List Record) (order order' : List 
           (accepted_within N N' records records' order order' dwell table table' cost promise)
 
   module _ (c : ℕ) where
-    pub house_dwell_exactly : (path path' : List ℕ) (r : Housed) →
+    pub house_dwell_exactly : (path path' : List ℕ) (r : Result ℕ Refusal) →
         HouseOfRecords N N' records records' order order' dwell c path path' r →
         (said_housed r ≡ refused 2 5) ↔ ((¬ (length path < node_limit)) × DwellOver j)
     house_dwell_exactly path path' r a =
         both (house_refused_exactly N records order dwell c N' records' order' path path' r a 2 5)
         (dwell_house j (length path < node_limit) c)
 
-    pub list_dwell_exactly : (list list' : List ℕ) (r : Checked) →
+    pub list_dwell_exactly : (list list' : List ℕ) (r : Result Unit Refusal) →
         ListOfRecords N N' records records' order order' dwell c list list' r →
         (said_checked r ≡ refused 2 5) ↔ DwellOver j
     list_dwell_exactly list list' r a =
         both (list_refused_exactly N records order dwell c N' records' order' list list' r a 2 5)
         (dwell_list j c (Unfit N (start j c) (goal j c) list))
 
-pub numbers_dwell_exactly : (j : Numbers) (before after : Lent) (r : Planned) →
+pub numbers_dwell_exactly : (j : Numbers) (before after : Lent) (r : Result ℕ Refusal) →
     Planning j before after (said_planned r) → (said_planned r ≡ refused 2 5) ↔ ((¬ ShortOf before) × DwellOver j)
 numbers_dwell_exactly j before after r promise =
     both (planning_refused_exactly j before after (said_planned r) promise 2 5) (dwell_planning j (ShortOf before))
 
-pub write_dwell_exactly : (j : Numbers) (out out' : List ℕ) (r : Written) → Writing j out out' (said_written r) →
+pub write_dwell_exactly : (j : Numbers) (out out' : List ℕ) (r : Result ℕ Refusal) → Writing j out out' (said_written r) →
     (said_written r ≡ refused 2 5) ↔ ((¬ (length out < text_room)) × DwellOver j)
 write_dwell_exactly j out out' r promise =
     both (write_refused_exactly j out out' r promise 2 5) (dwell_writing j (length out < text_room))
 
 pub read_dwell : (text text' lanes lanes' closed closed' : List ℕ) (records records' : List Record)
     (order order' : List ℕ) (counts : Job) →
-    ReadLeft text text' lanes lanes' closed closed' records records' order order' (Read.Job counts) →
+    ReadLeft text text' lanes lanes' closed closed' records records' order order' (Ok counts) →
     counts.dwell ≤ dwell_limit
 read_dwell text text' lanes lanes' closed closed' records records' order order' counts a =
     dwell_within (job_as_read counts lanes' closed' records' order')
@@ -225,7 +220,7 @@ module _ {text : List ℕ} {j : Numbers} {t : Tables} {tick : ℕ → ℕ} {cost
 -- ---- without dwell
 
 pub accepted_plain : (N N' : Network) (records records' : List Record) (order order' table table' : List ℕ) (cost : ℕ) →
-    RecordPlanning N N' records records' order order' 0 table table' (Cost cost) → (path : ℕ → List ℕ) →
+    RecordPlanning N N' records records' order order' 0 table table' (Ok cost) → (path : ℕ → List ℕ) →
     let j = record_job N records order 0 in
     ((i : ℕ) → i < carriers j → ShortestPath (floor N) (start j i) (goal j i) (path i)) →
     PlainDemand3 (floor N) (carriers j) (start j) (goal j) (tables_in table') order (tick_of records') path
@@ -235,7 +230,7 @@ accepted_plain N N' records records' order order' table table' cost promise path
     (accepted_safe N N' records records' order order' 0 table table' cost promise path shortest)
 
 pub accepted_plain_within : (N N' : Network) (records records' : List Record) (order order' table table' : List ℕ)
-    (cost : ℕ) → RecordPlanning N N' records records' order order' 0 table table' (Cost cost) →
+    (cost : ℕ) → RecordPlanning N N' records records' order order' 0 table table' (Ok cost) →
     PlainWithin (carriers (record_job N records order 0)) (tables_in table') (tick_of records') cost
 accepted_plain_within N N' records records' order order' table table' cost promise =
     within_plain (accepted_within N N' records records' order order' 0 table table' cost promise)
@@ -243,32 +238,32 @@ accepted_plain_within N N' records records' order order' table table' cost promi
 -- ---- there and back
 
 -- what reading answers is the counts with the dwell, so two answers that are one have one dwell
-dwell_in : Read → ℕ
-dwell_in (Read.Job counts) = counts.dwell
-dwell_in (Read.Refused q) = 0
+dwell_in : Result Job Refusal → ℕ
+dwell_in (Ok counts) = counts.dwell
+dwell_in (Err q) = 0
 
-same_dwell : (j : Numbers) {r : Read} {counts : Job} → r ≡ Read.Job (counts_of j) → r ≡ Read.Job counts →
+same_dwell : (j : Numbers) {r : Result Job Refusal} {counts : Job} → r ≡ Ok (counts_of j) → r ≡ Ok counts →
     counts.dwell ≡ j.dwell
 unfolding dwell_in
 same_dwell j e f = ap dwell_in (sym f ∙ e)
 
 pub numbers_dwell_comes_back : (lanes closed moves order lanes' closed' moves' order' : List ℕ) (j : Numbers)
-    (out out' : List ℕ) (size : ℕ) (r : Read) (counts : Job) →
-    Writing j out out' (said_written (Bytes size)) →
+    (out out' : List ℕ) (size : ℕ) (r : Result Job Refusal) (counts : Job) →
+    Writing j out out' (said_written (Ok size)) →
     ¬ AnyShort lanes closed moves order →
     ReadInto (take size out') lanes closed moves order lanes' closed' moves' order' (said_read r) →
-    r ≡ Read.Job counts → counts.dwell ≡ j.dwell
+    r ≡ Ok counts → counts.dwell ≡ j.dwell
 numbers_dwell_comes_back lanes closed moves order lanes' closed' moves' order' j out out' size r counts a long b =
     same_dwell j
     (numbers_come_back lanes closed moves order lanes' closed' moves' order' j out out' size r a long b).0
 
 pub dwell_comes_back : {N N' : Network} {records records' : List Record} {order order' : List ℕ} {dwell : ℕ}
     {out out' text' lanes₀ lanes₁ closed₀ closed₁ : List ℕ} {records₀ records₁ : List Record} {order₀ order₁ : List ℕ}
-    (size : ℕ) (r : Read) (counts : Job) →
-    RecordWriting N N' records records' order order' dwell out out' (Bytes size) →
+    (size : ℕ) (r : Result Job Refusal) (counts : Job) →
+    RecordWriting N N' records records' order order' dwell out out' (Ok size) →
     ¬ LentShort lanes₀ closed₀ records₀ order₀ →
     ReadLeft (take size out') text' lanes₀ lanes₁ closed₀ closed₁ records₀ records₁ order₀ order₁ r →
-    r ≡ Read.Job counts → counts.dwell ≡ dwell
+    r ≡ Ok counts → counts.dwell ≡ dwell
 dwell_comes_back {N} {records = records} {order = order} {dwell = dwell} size r counts a long b =
     same_dwell (record_job N records order dwell)
     (job_comes_back size r a long b).0

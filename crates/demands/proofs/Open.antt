@@ -16,8 +16,9 @@ use mathlib.Core.List.{List}
 use Prim.Native.Nat.{ℕ, ◌<◌}
 use native.Mathlib.Omega.{arith}
 use lib.ListN.{length, get_or, take}
-use Rattle.hall.specs.declared.Checked.{Checked}
-use Rattle.hall.specs.declared.Checked.TheVariants.{Sound}
+use Rattle.std.proofs.Common.{Result, Ok}
+use Rattle.hall.specs.declared.Job.{Job}
+use Rattle.hall.specs.declared.Refusal.{Refusal}
 use Rattle.hall.specs.Floor.{Network, Closed, Open, floor}
 use Rattle.hall.specs.Job.{Numbers, carriers, start, goal}
 use Rattle.hall.specs.Stages.{None}
@@ -29,11 +30,7 @@ use Rattle.hall.proofs.Compose.{first_after}
 use Rattle.hall.proofs.Places.{asked_here}
 use Rattle.hall.proofs.Sound.{ends_on}
 use Rattle.records.specs.declared.Record.{Record}
-use Rattle.reader.specs.declared.Read.{Read}
 use Rattle.reader.specs.Reading.{said_read, AnyShort, ReadInto}
-use Rattle.path.specs.declared.Housed.TheVariants.{Nodes}
-use Rattle.planner.specs.declared.Planned.TheVariants.{Cost}
-use Rattle.writer.specs.declared.Written.TheVariants.{Bytes}
 use Rattle.writer.specs.Writing.{said_written, Writing}
 use Rattle.recorded.specs.Job.{record_job}
 use Rattle.recorded.specs.Reading.{LentShort, ReadLeft}
@@ -57,7 +54,7 @@ module _ (N : Network) (s g : ℕ) (path : List ℕ) (shortest : ShortestPath (f
 
 module _ (N N' : Network) (records records' : List Record) (order order' : List ℕ) (dwell : ℕ)
     (table table' : List ℕ) (cost : ℕ)
-    (promise : RecordPlanning N N' records records' order order' dwell table table' (Cost cost)) where
+    (promise : RecordPlanning N N' records records' order order' dwell table table' (Ok cost)) where
   abbrev accepted_job : Numbers
   accepted_job = record_job N records order dwell
 
@@ -86,20 +83,20 @@ module _ (N N' : Network) (records records' : List Record) (order order' : List 
   its_job = record_job N records order dwell
 
   pub house_open : (path path' : List ℕ) (count : ℕ) →
-      HouseOfRecords N N' records records' order order' dwell c path path' (Nodes count) →
+      HouseOfRecords N N' records records' order order' dwell c path path' (Ok count) →
       (k : ℕ) → k < length (take count path') → Open N (get_or (take count path') k 0)
   house_open path path' count a =
       nodes_open N (start its_job c) (goal its_job c) (take count path')
       (house_shortest N records order dwell c N' records' order' path path' count a)
 
   module _ (list list' : List ℕ) where
-    pub sound_open : ListOfRecords N N' records records' order order' dwell c list list' Sound →
+    pub sound_open : ListOfRecords N N' records records' order order' dwell c list list' (Ok tt) →
         (k : ℕ) → k < length list → Open N (get_or list k 0)
     sound_open a =
         nodes_open N (start its_job c) (goal its_job c) list
         (sound_shortest N records order dwell c N' records' order' list list' a)
 
-    pub closed_list_refused : (r : Checked) → ListOfRecords N N' records records' order order' dwell c list list' r →
+    pub closed_list_refused : (r : Result Unit Refusal) → ListOfRecords N N' records records' order order' dwell c list list' r →
         None (asked_question its_job c) → (k : ℕ) → k < length list → Closed N.closed (get_or list k 0) →
         said_checked r ≡ refused 11 0
     closed_list_refused r a none k h shut =
@@ -110,8 +107,8 @@ module _ (N N' : Network) (records records' : List Record) (order order' : List 
 -- ---- there and back
 
 pub numbers_closed_come_back : (lanes closed moves order lanes' closed' moves' order' : List ℕ) (j : Numbers)
-    (out out' : List ℕ) (size : ℕ) (r : Read) →
-    Writing j out out' (said_written (Bytes size)) →
+    (out out' : List ℕ) (size : ℕ) (r : Result Job Refusal) →
+    Writing j out out' (said_written (Ok size)) →
     ¬ AnyShort lanes closed moves order →
     ReadInto (take size out') lanes closed moves order lanes' closed' moves' order' (said_read r) →
     take (length j.network.closed) closed' ≡ j.network.closed
@@ -122,8 +119,8 @@ numbers_closed_come_back lanes closed moves order lanes' closed' moves' order' j
 
 pub closed_come_back : {N N' : Network} {records records' : List Record} {order order' : List ℕ} {dwell : ℕ} {out out' : List ℕ}
     {text' lanes₀ lanes₁ closed₀ closed₁ : List ℕ} {records₀ records₁ : List Record} {order₀ order₁ : List ℕ}
-    (size : ℕ) (r : Read) →
-    RecordWriting N N' records records' order order' dwell out out' (Bytes size) →
+    (size : ℕ) (r : Result Job Refusal) →
+    RecordWriting N N' records records' order order' dwell out out' (Ok size) →
     ¬ LentShort lanes₀ closed₀ records₀ order₀ →
     ReadLeft (take size out') text' lanes₀ lanes₁ closed₀ closed₁ records₀ records₁ order₀ order₁ r →
     take (length N.closed) closed₁ ≡ N.closed

@@ -23,9 +23,9 @@ use mathlib.Core.List.{List, [], ◌∷◌, ◌++◌}
 use Prim.Native.Nat.{ℕ, suc, ◌*◌, ◌≤◌, ◌<◌}
 use native.Mathlib.Omega.{arith}
 use lib.ListN.{length, get_or}
-use Rattle.hall.specs.declared.Checked.{Checked}
-use Rattle.hall.specs.declared.Checked.TheVariants.{Sound}
-use Rattle.hall.specs.declared.Checked.TheVariants as checked
+use Rattle.std.proofs.Common.{Result, Ok, Err}
+use Rattle.hall.specs.declared.Job.{Job}
+use Rattle.hall.specs.declared.Refusal.{Refusal}
 use Rattle.hall.specs.Limits.{table_length}
 use Rattle.hall.specs.Floor.{Walk, Network, floor}
 use Rattle.hall.specs.Job.{Numbers, carriers, start, goal, at_place}
@@ -49,14 +49,9 @@ use Rattle.form.specs.Lines.{further, count_line}
 use Rattle.form.proofs.LineForms.{further_unique}
 use Rattle.form.proofs.LineTests.{front_unique}
 use Rattle.form.proofs.JobTexts.{refused_with}
-use Rattle.reader.specs.declared.Read.{Read}
 use Rattle.reader.specs.Reading.{said_read}
-use Rattle.writer.specs.declared.Written.{Written}
 use Rattle.writer.specs.Writing.{said_written}
-use Rattle.path.specs.declared.Housed.{Housed}
 use Rattle.path.specs.Paths.{said_housed}
-use Rattle.planner.specs.declared.Planned.{Planned}
-use Rattle.planner.specs.declared.Planned.TheVariants.{Cost}
 use Rattle.planner.specs.Planning.{said_planned}
 use Rattle.recorded.specs.Job.{record_job}
 use Rattle.recorded.specs.Planning.{record_question, tick_of, RecordPlanning}
@@ -72,9 +67,9 @@ module _ (N N' : Network) (records records' : List Record) (order order' : List 
   abbrev j : Numbers
   j = record_job N records order dwell
 
-  pub well_formed_accepted : (r : Planned) → RecordPlanning N N' records records' order order' dwell table table' r →
+  pub well_formed_accepted : (r : Result ℕ Refusal) → RecordPlanning N N' records records' order order' dwell table table' r →
       WellFormed j → ((i : ℕ) → i < carriers j → (n : ℕ) × Walk (floor N) (start j i) (goal j i) n) →
-      table_length ≤ length table → (cost : ℕ) × (r ≡ Cost cost)
+      table_length ≤ length table → (cost : ℕ) × (r ≡ Ok cost)
   well_formed_accepted r promise formed walks long =
       (plan_accepted_exactly N N' records records' order order' dwell table table' r promise).1
       (asked_clear (λ short. omega arith)
@@ -84,7 +79,7 @@ module _ (N N' : Network) (records records' : List Record) (order order' : List 
       passed : Passed (walk_checks N j.moves) (carriers j)
       passed = record { clear = λ i h. (λ none. none (walks i h).0 (walks i h).1, tt) }
 
-  module _ (cost : ℕ) (promise : RecordPlanning N N' records records' order order' dwell table table' (Cost cost)) where
+  module _ (cost : ℕ) (promise : RecordPlanning N N' records records' order order' dwell table table' (Ok cost)) where
     pub accepted_two : (path : ℕ → List ℕ) →
         ((i : ℕ) → i < carriers j → ShortestPath (floor N) (start j i) (goal j i) (path i)) →
         (i k : ℕ) → i < carriers j → k < carriers j → i ≢ k →
@@ -123,25 +118,25 @@ module _ {text : List ℕ} {j : Numbers} {t : Tables} {tick : ℕ → ℕ} {cost
 
 -- ---- 6 does not occur
 
-pub read_never_six : (r : Read) (line : ℕ) → said_read r ≢ refused 6 line
-read_never_six (Read.Job counts) line = accepted_never_six counts line
-read_never_six (Read.Refused q) line = never_six q line
+pub read_never_six : (r : Result Job Refusal) (line : ℕ) → said_read r ≢ refused 6 line
+read_never_six (Ok counts) line = accepted_never_six counts line
+read_never_six (Err q) line = never_six q line
 
-pub plan_never_six : (r : Planned) (p : ℕ) → said_planned r ≢ refused 6 p
-plan_never_six (Cost cost) p = accepted_never_six cost p
-plan_never_six (Planned.Refused q) p = never_six q p
+pub plan_never_six : (r : Result ℕ Refusal) (p : ℕ) → said_planned r ≢ refused 6 p
+plan_never_six (Ok cost) p = accepted_never_six cost p
+plan_never_six (Err q) p = never_six q p
 
-pub house_never_six : (r : Housed) (p : ℕ) → said_housed r ≢ refused 6 p
-house_never_six (Housed.Nodes count) p = accepted_never_six count p
-house_never_six (Housed.Refused q) p = never_six q p
+pub house_never_six : (r : Result ℕ Refusal) (p : ℕ) → said_housed r ≢ refused 6 p
+house_never_six (Ok count) p = accepted_never_six count p
+house_never_six (Err q) p = never_six q p
 
-pub check_never_six : (r : Checked) (p : ℕ) → said_checked r ≢ refused 6 p
-check_never_six Sound p = accepted_never_six tt p
-check_never_six (checked.Refused q) p = never_six q p
+pub check_never_six : (r : Result Unit Refusal) (p : ℕ) → said_checked r ≢ refused 6 p
+check_never_six (Ok tt) p = accepted_never_six tt p
+check_never_six (Err q) p = never_six q p
 
-pub write_never_six : (r : Written) (p : ℕ) → said_written r ≢ refused 6 p
-write_never_six (Written.Bytes size) p = accepted_never_six size p
-write_never_six (Written.Refused q) p = never_six q p
+pub write_never_six : (r : Result ℕ Refusal) (p : ℕ) → said_written r ≢ refused 6 p
+write_never_six (Ok size) p = accepted_never_six size p
+write_never_six (Err q) p = never_six q p
 
 pub plan_six_never_first : (j : Numbers) (table : List ℕ) (p : ℕ) → ¬ First (record_question j table) 6 p
 plan_six_never_first j table p first = first_among (λ n. n ≢ 6) {q = record_question j table} (omega arith) first refl

@@ -28,7 +28,9 @@ use mathlib.Core.List.{List}
 use Prim.Native.Nat.{ℕ, ◌*◌, ◌≤◌, ◌<◌}
 use native.Mathlib.Omega.{arith}
 use lib.ListN.{length, take}
+use Rattle.std.proofs.Common.{Result, Ok, Err}
 use Rattle.hall.specs.declared.Job.{Job}
+use Rattle.hall.specs.declared.Refusal.{Refusal}
 use Rattle.hall.specs.Limits.{text_room, node_limit, lane_numbers, move_numbers, carrier_limit}
 use Rattle.hall.specs.Floor.{Network, lanes_in, network_of}
 use Rattle.hall.specs.Job.{Numbers, job_of, carriers}
@@ -48,12 +50,9 @@ use Rattle.records.proofs.Laws.{moves_length}
 use Rattle.form.specs.Jobs.{text_of, whole_job, WrittenJob}
 use Rattle.form.proofs.WrittenJobs.{lanes_paired}
 use Rattle.form.proofs.WholeJobs.{whole_count, whole_paired, whole_written, written_length}
-use Rattle.reader.specs.declared.Read.{Read}
 use Rattle.reader.specs.Reading.{said_read, counts_of, numbers_read, AnyShort, ReadInto}
 use Rattle.reader.proofs.Unique.{said_read_one}
 use Rattle.reader.proofs.Exactly.{accepted_as}
-use Rattle.writer.specs.declared.Written.{Written}
-use Rattle.writer.specs.declared.Written.TheVariants.{Bytes}
 use Rattle.writer.specs.Writing.{said_written, Writing}
 use Rattle.writer.proofs.Unique.{writing_unique}
 use Rattle.recorded.specs.Job.{record_job}
@@ -65,9 +64,9 @@ use Rattle.demands.proofs.Demands.{accepted_exactly, accepted_text_written}
 -- ---- writing, from its promise
 
 -- an answer that says how many bytes there are is that number
-said_bytes : (r : Written) (n : ℕ) → said_written r ≡ accepted n → r ≡ Bytes n
-said_bytes (Written.Bytes m) n e = let same : m ≡ n = cc in ap Bytes same
-said_bytes (Written.Refused q) n e = absurd (let z : ◌≡◌ {A = ℕ} 1 0 = cc in omega arith)
+said_bytes : (r : Result ℕ Refusal) (n : ℕ) → said_written r ≡ accepted n → r ≡ Ok n
+said_bytes (Ok m) n e = let same : m ≡ n = cc in ap Ok same
+said_bytes (Err q) n e = absurd (let z : ◌≡◌ {A = ℕ} 1 0 = cc in omega arith)
 
 module _ (j : Numbers) (out out' : List ℕ) where
   abbrev Writes : Said ℕ → Type 0
@@ -88,7 +87,7 @@ module _ (j : Numbers) (out out' : List ℕ) where
     λ e. absurd (let z : ◌≡◌ {A = ℕ} 1 0 = cc in omega arith),
   )
 
-  module _ (r : Written) (a : Writes (said_written r)) where
+  module _ (r : Result ℕ Refusal) (a : Writes (said_written r)) where
     -- refused with a number at a place, and accepted, exactly when the list says
 
     pub write_refused_exactly : (n p : ℕ) →
@@ -119,24 +118,24 @@ module _ (j : Numbers) (out out' : List ℕ) where
 
     -- every job without faults of the listed checks is written, and 47,142 bytes are enough for it
     pub always_written : text_room ≤ length out → None (checks_question j) →
-        (r ≡ Bytes (length (text_of j))) × (length (text_of j) ≤ 47110)
+        (r ≡ Ok (length (text_of j))) × (length (text_of j) ≤ 47110)
     always_written long none =
         (said_bytes r (length (text_of j)) (write_accepted_exactly.0 (long, none)), written_length j none)
 
     -- that planning would refuse it with 8 does not matter
     pub write_unreached : text_room ≤ length out → {p : ℕ} → First (job_question j) 8 p →
-        r ≡ Bytes (length (text_of j))
+        r ≡ Ok (length (text_of j))
     write_unreached long unreached =
         let none = unreached_written {Short = length out < text_room} j (λ h. omega arith) unreached in
         (always_written long (none_asked none).1).0
 
     -- the text of a job is written again: so many bytes, these, and zeros behind them
     written_again : {text : List ℕ} → WrittenJob text j → text_room ≤ length out →
-        (r ≡ Bytes (length text)) × (take (length text) out' ≡ text) × (out' ≡ filled text text_room out)
+        (r ≡ Ok (length text)) × (take (length text) out' ≡ text) × (out' ≡ filled text text_room out)
     written_again {text} w long =
         let same = sym w.writes in
         let left = write_filled long w.sound ∙ ap (λ (t : List ℕ). filled t text_room out) same in (
-          (always_written long w.sound).0 ∙ ap (λ (t : List ℕ). Bytes (length t)) same,
+          (always_written long w.sound).0 ∙ ap (λ (t : List ℕ). Ok (length t)) same,
           ap (λ (t : List ℕ). take (length text) t) left ∙ filled_front text text_room out (length text) refl,
           left,
         )
@@ -186,11 +185,11 @@ numbers_filled j lanes closed moves order l v m o none paired el ev em eo =
 module _ (lanes closed moves order lanes' closed' moves' order' : List ℕ) where
   -- what was written is read: the same counts, lanes, closed nodes, moves, order and dwell; an odd last
   -- number was in no move
-  pub numbers_come_back : (j : Numbers) (out out' : List ℕ) (size : ℕ) (r : Read) →
-      Writing j out out' (said_written (Bytes size)) →
+  pub numbers_come_back : (j : Numbers) (out out' : List ℕ) (size : ℕ) (r : Result Job Refusal) →
+      Writing j out out' (said_written (Ok size)) →
       ¬ AnyShort lanes closed moves order →
       ReadInto (take size out') lanes closed moves order lanes' closed' moves' order' (said_read r) →
-      (r ≡ Read.Job (counts_of j)) × (numbers_read (counts_of j) lanes' closed' moves' order' ≡ whole_job j)
+      (r ≡ Ok (counts_of j)) × (numbers_read (counts_of j) lanes' closed' moves' order' ≡ whole_job j)
   numbers_come_back j out out' size r a long b =
       let w = whole_written j (none_asked a.no_fault).1 in
       let front = written_front j out out' size a in
@@ -201,26 +200,26 @@ module _ (lanes closed moves order lanes' closed' moves' order' : List ℕ) wher
       let stands =
       numbers_filled (whole_job j) lanes closed moves order lanes' closed' moves' order' w.sound w.paired x.1 x.2 x.3
       x.4 in (
-        said_read_one r (Read.Job (counts_of j)) (x.0 ∙ ap accepted counts),
+        said_read_one r (Ok (counts_of j)) (x.0 ∙ ap accepted counts),
         ap (λ (c : Job). numbers_read c lanes' closed' moves' order') (sym counts) ∙ stands,
       )
 
-  pub paired_come_back : (j : Numbers) (out out' : List ℕ) (size : ℕ) (r : Read) →
+  pub paired_come_back : (j : Numbers) (out out' : List ℕ) (size : ℕ) (r : Result Job Refusal) →
       length j.moves ≡ 2 * carriers j →
-      Writing j out out' (said_written (Bytes size)) →
+      Writing j out out' (said_written (Ok size)) →
       ¬ AnyShort lanes closed moves order →
       ReadInto (take size out') lanes closed moves order lanes' closed' moves' order' (said_read r) →
-      (r ≡ Read.Job (counts_of j)) × (numbers_read (counts_of j) lanes' closed' moves' order' ≡ j)
+      (r ≡ Ok (counts_of j)) × (numbers_read (counts_of j) lanes' closed' moves' order' ≡ j)
   paired_come_back j out out' size r paired a long b =
       let back = numbers_come_back j out out' size r a long b in
       (back.0, back.1 ∙ ap (λ (ms : List ℕ). job_of j.network ms j.order j.dwell) (whole_paired j.moves paired))
 
   -- what was read is written: the same bytes
-  pub numbers_text_comes_back : (text out out' : List ℕ) (counts : Job) (r : Written) →
-      ReadInto text lanes closed moves order lanes' closed' moves' order' (said_read (Read.Job counts)) →
+  pub numbers_text_comes_back : (text out out' : List ℕ) (counts : Job) (r : Result ℕ Refusal) →
+      ReadInto text lanes closed moves order lanes' closed' moves' order' (said_read (Ok counts)) →
       text_room ≤ length out →
       Writing (numbers_read counts lanes' closed' moves' order') out out' (said_written r) →
-      (r ≡ Bytes (length text)) × (take (length text) out' ≡ text) × (out' ≡ filled text text_room out)
+      (r ≡ Ok (length text)) × (take (length text) out' ≡ text) × (out' ≡ filled text text_room out)
   numbers_text_comes_back text out out' counts r b long a =
       let w = b.writes in
       let same : numbers_read counts lanes' closed' moves' order' ≡ b.job =
@@ -235,12 +234,12 @@ module _ (lanes closed moves order lanes' closed' moves' order' : List ℕ) wher
 -- what was written is read: the same counts, lanes, closed nodes, moves, order and dwell
 pub job_comes_back : {N N' : Network} {records records' : List Record} {order order' : List ℕ} {dwell : ℕ}
     {out out' text' lanes₀ lanes₁ closed₀ closed₁ : List ℕ} {records₀ records₁ : List Record} {order₀ order₁ : List ℕ}
-    (size : ℕ) (r : Read) →
-    RecordWriting N N' records records' order order' dwell out out' (Bytes size) →
+    (size : ℕ) (r : Result Job Refusal) →
+    RecordWriting N N' records records' order order' dwell out out' (Ok size) →
     ¬ LentShort lanes₀ closed₀ records₀ order₀ →
     ReadLeft (take size out') text' lanes₀ lanes₁ closed₀ closed₁ records₀ records₁ order₀ order₁ r →
     let j = record_job N records order dwell in
-    (r ≡ Read.Job (counts_of j)) × (job_as_read (counts_of j) lanes₁ closed₁ records₁ order₁ ≡ j)
+    (r ≡ Ok (counts_of j)) × (job_as_read (counts_of j) lanes₁ closed₁ records₁ order₁ ≡ j)
 job_comes_back {N} {records = records} {order = order} {dwell = dwell} {out = out} {out' = out'} size r a long b =
     let j = record_job N records order dwell in
     let twos : length (moves_of records) ≡ 2 * carriers j = omega (arith, moves_length records) in
@@ -250,14 +249,14 @@ job_comes_back {N} {records = records} {order = order} {dwell = dwell} {out = ou
     let front = written_front j out out' size a.given in
     let read : WrittenJob (take size out') j = rw front own in
     let back = (accepted_exactly b j).0 (long, read) in
-    (said_read_one r (Read.Job (counts_of j)) back.0, back.1)
+    (said_read_one r (Ok (counts_of j)) back.0, back.1)
 
 -- what was read is written: the same bytes. The network and the order that the counts cut out of the tables
 -- are lent to writing, the dwell that was answered, and records with the moves that were read, whatever their
 -- distances and ticks are
 pub text_comes_back : {text text' lanes lanes' closed closed' : List ℕ}
-    {records records' planned rs : List Record} {order order' o out out' : List ℕ} {N' : Network} (counts : Job) (r : Written) →
-    ReadLeft text text' lanes lanes' closed closed' records records' order order' (Read.Job counts) →
+    {records records' planned rs : List Record} {order order' o out out' : List ℕ} {N' : Network} (counts : Job) (r : Result ℕ Refusal) →
+    ReadLeft text text' lanes lanes' closed closed' records records' order order' (Ok counts) →
     moves_of planned ≡ moves_of (take counts.carriers records') →
     text_room ≤ length out →
     RecordWriting
@@ -266,7 +265,7 @@ pub text_comes_back : {text text' lanes lanes' closed closed' : List ℕ}
     (take counts.carriers order') o
     counts.dwell
     out out' r →
-    (r ≡ Bytes (length text)) × (take (length text) out' ≡ text) × (out' ≡ filled text text_room out)
+    (r ≡ Ok (length text)) × (take (length text) out' ≡ text) × (out' ≡ filled text text_room out)
 text_comes_back {text} {text'} {lanes} {lanes'} {closed} {closed'} {records} {records'} {order = order} {order' = order'} {out = out} {out' = out'} counts r b same long a =
     let w = accepted_text_written text text' lanes lanes' closed closed' records records' order order' counts b in
     let N = network_of counts.nodes (take (2 * counts.lanes) lanes') (take counts.closed closed') in
@@ -276,19 +275,19 @@ text_comes_back {text} {text'} {lanes} {lanes'} {closed} {closed'} {records} {re
 
 -- ---- one answer
 
-pub one_writing : (j : Numbers) (out : List ℕ) (r s : Written) (a b : List ℕ) →
+pub one_writing : (j : Numbers) (out : List ℕ) (r s : Result ℕ Refusal) (a b : List ℕ) →
     Writing j out a (said_written r) → Writing j out b (said_written s) → (r ≡ s) × (a ≡ b)
 one_writing = writing_unique
 
 pub one_record_writing : (N M O : Network) (records rs qs : List Record) (order o p : List ℕ) (dwell : ℕ)
-    (out a b : List ℕ) (r s : Written) →
+    (out a b : List ℕ) (r s : Result ℕ Refusal) →
     RecordWriting N M records rs order o dwell out a r → RecordWriting N O records qs order p dwell out b s →
     ((r ≡ s) × (a ≡ b)) × ((M ≡ O) × (rs ≡ qs) × (o ≡ p))
 one_record_writing N M O records rs qs order o p dwell out a b = write_unique N records order dwell M O rs qs o p out a b
 
 -- with records and from their numbers it is one question
 pub one_meaning : (N N' : Network) (records rs : List Record) (order o : List ℕ) (dwell : ℕ) (out a b : List ℕ)
-    (r s : Written) → RecordWriting N N' records rs order o dwell out a r →
+    (r s : Result ℕ Refusal) → RecordWriting N N' records rs order o dwell out a r →
     Writing (job_of N (moves_of records) order dwell) out b (said_written s) →
     (r ≡ s) × (a ≡ b)
 one_meaning N N' records rs order o dwell out a b r s x y =
