@@ -1,6 +1,7 @@
 -- The parts of a line at a place of the text: the rest from there on is the byte that stands there and the
 -- rest behind it, so that the byte's kind decides. Assumes nothing.
---     digit-..       the answer to the question for a digit; byte-.. to that for one byte of a kind
+--     byte_on        the byte that was taken, by its number
+--     digit_got, digit_not    the answer to the question for a digit, by that for a byte of its kind
 --     WordSoFar      so many letters of a word are capital letters and stand in front of this place
 --     DigitsSoFar    the digits of the value so far were taken. The value leaves room for the digits that may
 --                    still come (`digit_room`), so that no number passes 9,999, and has all those that came
@@ -14,45 +15,40 @@ use lib.ListN.{length, get_or, drop, drop_of_length-le}
 use lib.Seq.{drop-cons}
 use Rattle.put.specs.Digits.{digit, digits}
 use Rattle.put.proofs.Digits.{below_ten, digit_behind}
-use Rattle.form.proofs.Cuts.{head_same, tail_same, never_empty}
+use Rattle.form.proofs.Cuts.{head_same, tail_same}
+use Rattle.cursor.specs.declared.bytes.Kind.{Kind}
 use Rattle.cursor.specs.declared.bytes.Kind.TheVariants.{Digit, Capital}
 use Rattle.cursor.specs.declared.Cursor.{Cursor}
-use Rattle.std.specs.Prelude.{Option}
+use Rattle.std.specs.Prelude.{Option, None}
 use Rattle.cursor.specs.Bytes.{kind_of, Capitals}
-use Rattle.cursor.specs.Parts.{NoDigit, DigitTaken, NumberTaken, Numbering}
+use Rattle.cursor.specs.Parts.{ByteTaken, Taking, NoDigit, DigitTaken, NumberTaken, Numbering}
 use Rattle.cursor.proofs.ByteKinds.{kind_capital, lies}
 
 -- ---- one byte
 
-module _ (text : List ℕ) (at : ℕ) where
-  pub front : at < length text → drop at text ≡ get_or text at 0 ∷ drop (at + 1) text
-  front h = rw add-one (drop-cons text at 0 h)
+pub front : (text : List ℕ) (at : ℕ) → at < length text → drop at text ≡ get_or text at 0 ∷ drop (at + 1) text
+front text at h = rw add-one (drop-cons text at 0 h)
 
-  pub digit_past : length text ≤ at → NoDigit (drop at text)
-  digit_past h = rw (drop_of_length-le text h) tt
+module _ {text : List ℕ} {c : Cursor} {b : ℕ} {next : Cursor} where
+  pub byte_on : {kind : Kind} (n : ℕ) → ByteTaken text c kind b next → b ≡ n
+      → drop c.at text ≡ n ∷ drop next.at text
+  byte_on n x e = x.begins ∙ (λ i. e i ∷ drop next.at text)
 
-  pub digit_not : at < length text → ¬ (kind_of (get_or text at 0) ≡ Digit) → NoDigit (drop at text)
-  digit_not h n = rw (front h) n
+  pub digit_got : ByteTaken text c Digit b next → DigitTaken text c (b - 48) next
+  digit_got x =
+      let r = lies b Digit x.of_kind in
+      record {
+        below = omega (arith, r.1);
+        begins = byte_on (digit (b - 48)) x (omega (arith, r.0));
+        same_line = x.same_line;
+      }
 
-  pub byte_past : (b : ℕ) → length text ≤ at → (rest : List ℕ) → ¬ (drop at text ≡ b ∷ rest)
-  byte_past b h rest e = never_empty (sym e ∙ drop_of_length-le text h)
-
-  pub byte_not : (b : ℕ) → at < length text → ¬ (get_or text at 0 ≡ b) → (rest : List ℕ)
-      → ¬ (drop at text ≡ b ∷ rest)
-  byte_not b h n rest e = n (head_same (sym (front h) ∙ e))
-
-  pub byte_on : (b : ℕ) → at < length text → get_or text at 0 ≡ b → drop at text ≡ b ∷ drop (at + 1) text
-  byte_on b h e = front h ∙ (λ i. e i ∷ drop (at + 1) text)
-
-pub digit_got : (text : List ℕ) (c : Cursor) → c.at < length text → kind_of (get_or text c.at 0) ≡ Digit
-    → DigitTaken text c (get_or text c.at 0 - 48) (record { at = c.at + 1; line = c.line })
-digit_got text c h e =
-    let r = lies (get_or text c.at 0) Digit e in
-    record {
-      below = omega (arith, r.1);
-      begins = byte_on text c.at (digit (get_or text c.at 0 - 48)) h (omega (arith, r.0));
-      same_line = refl;
-    }
+pub digit_not : (text : List ℕ) (c : Cursor) → Taking text c Digit None → NoDigit (drop c.at text)
+digit_not text c none = at_front (drop c.at text) none
+  where
+    at_front : (t : List ℕ) → ((b : ℕ) (rest : List ℕ) → kind_of b ≡ Digit → ¬ (t ≡ b ∷ rest)) → NoDigit t
+    at_front [] n = tt
+    at_front (b ∷ t) n = λ e. n b t e refl
 
 -- ---- the letters of a word
 
@@ -73,42 +69,36 @@ module _ (text word : List ℕ) (start : ℕ) where
       let none = drop_of_length-le word h in
       (w.here (drop at text) (rw none refl), w.ours (rw none tt))
 
-  module _ (i at : ℕ) (inside : i < length word) (w : WordSoFar text word start i at) where
+  module _ (i : ℕ) (here : Cursor) (inside : i < length word) (w : WordSoFar text word start i here.at) where
     letter : drop i word ≡ get_or word i 0 ∷ drop (i + 1) word
     letter = front word i inside
 
-    pub word_ends : length text ≤ at → Capitals word → (rest : List ℕ) → ¬ (drop start text ≡ word ++ rest)
-    word_ends h caps rest e =
-        byte_past text at (get_or word i 0) h (drop (i + 1) word ++ rest)
-        (w.back rest e ∙ ap (λ (l : List ℕ). l ++ rest) letter)
+    -- with the word the letter stands here
+    stands : (rest : List ℕ) → drop start text ≡ word ++ rest
+        → drop here.at text ≡ get_or word i 0 ∷ (drop (i + 1) word ++ rest)
+    stands rest e = w.back rest e ∙ ap (λ (l : List ℕ). l ++ rest) letter
 
-    module _ (there : at < length text) where
-      same_letter : (rest : List ℕ) → drop start text ≡ word ++ rest → get_or text at 0 ≡ get_or word i 0
-      same_letter rest e =
-          head_same (sym (front text at there) ∙ w.back rest e ∙ ap (λ (l : List ℕ). l ++ rest) letter)
+    pub word_ends : Taking text here Capital None → Capitals word → (rest : List ℕ)
+        → ¬ (drop start text ≡ word ++ rest)
+    word_ends none caps rest e =
+        let own = rw letter at (w.theirs caps) in
+        none (get_or word i 0) (drop (i + 1) word ++ rest) (kind_capital (get_or word i 0) own.0 own.1)
+        (stands rest e)
 
-      pub word_small : ¬ (kind_of (get_or text at 0) ≡ Capital) → Capitals word → (rest : List ℕ)
+    module _ (b : ℕ) (next : Cursor) (x : ByteTaken text here Capital b next) where
+      pub word_differs : ¬ (b ≡ get_or word i 0) → Capitals word → (rest : List ℕ)
           → ¬ (drop start text ≡ word ++ rest)
-      word_small n caps rest e =
-          let own = rw letter at (w.theirs caps) in
-          n (rw (same_letter rest e) (kind_capital (get_or word i 0) own.0 own.1))
+      word_differs n caps rest e = n (head_same (sym x.begins ∙ stands rest e))
 
-      pub word_differs : ¬ (get_or text at 0 ≡ get_or word i 0) → Capitals word → (rest : List ℕ)
-          → ¬ (drop start text ≡ word ++ rest)
-      word_differs n caps rest e = n (same_letter rest e)
-
-      pub word_goes_on : kind_of (get_or text at 0) ≡ Capital → get_or text at 0 ≡ get_or word i 0
-          → WordSoFar text word start (i + 1) (at + 1)
-      word_goes_on k e = record {
+      pub word_goes_on : b ≡ get_or word i 0 → WordSoFar text word start (i + 1) next.at
+      word_goes_on e = record {
         here = λ rest h.
-            w.here rest
-            (front text at there ∙ (λ j. e j ∷ h j) ∙ ap (λ (l : List ℕ). l ++ rest) (sym letter));
-        back = λ rest h.
-            tail_same (sym (front text at there) ∙ w.back rest h ∙ ap (λ (l : List ℕ). l ++ rest) letter);
-        ours = λ x.
-            let own = rw e at (lies (get_or text at 0) Capital k) in
-            w.ours (rw letter (own.0, own.1, x));
-        theirs = λ x. (rw letter at (w.theirs x)).2;
+            w.here rest (x.begins ∙ (λ j. e j ∷ h j) ∙ ap (λ (l : List ℕ). l ++ rest) (sym letter));
+        back = λ rest h. tail_same (sym x.begins ∙ stands rest h);
+        ours = λ y.
+            let own = rw e at (lies b Capital x.of_kind) in
+            w.ours (rw letter (own.0, own.1, y));
+        theirs = λ y. (rw letter at (w.theirs y)).2;
       }
 
 -- ---- the further digits of a number

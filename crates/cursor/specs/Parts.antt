@@ -1,5 +1,6 @@
 -- What a cursor's private steps answer (rules 7.3 to 7.5): each takes a part of a line off the front of what
 -- is left of the text, or tells that no such part stands there.
+--     ByteTaken      a byte of a kind was taken; `Taking` what the question for one answers
 --     NoDigit        a text does not begin with a digit
 --     DigitTaken     a digit was taken, by its value; `Digiting` what the question for it answers
 --     Ended          no further digit belongs to a number: it is 0, or it has four, or none follows
@@ -9,12 +10,25 @@
 --     Spacing        what the question for a space answers
 --     Feeding        what the question for a line feed answers: behind it is the next line
 --     Wording        what the question for a word answers: it is taken if its letters are capital letters
-use Rattle.std.specs.Prelude.{◌≡◌, ◌⊎◌, List, [], ◌∷◌, ◌++◌, Option, None, Some, ℕ, ◌≤◌, ◌<◌, drop}
+use Rattle.std.specs.Prelude.{◌≡◌, ◌⊎◌, List, [], ◌∷◌, ◌++◌, Option, None, Some, ℕ, ◌≤◌, ◌<◌, length, drop}
 use Rattle.put.specs.Digits.{digit, digits}
+use Rattle.cursor.specs.declared.bytes.Kind.{Kind}
 use Rattle.cursor.specs.declared.bytes.Kind.TheVariants.{Digit}
 use Rattle.cursor.specs.declared.Cursor.{Cursor}
 use Rattle.cursor.specs.Bytes.{kind_of, Capitals}
 use Rattle.cursor.specs.Steps.{Behind}
+
+-- ---- one byte
+
+pub record ByteTaken (text : List ℕ) (c : Cursor) (kind : Kind) (b : ℕ) (next : Cursor) : Type 0 where
+  pub of_kind : kind_of b ≡ kind
+  pub begins : drop c.at text ≡ b ∷ drop next.at text
+  pub within : next.at ≤ length text
+  pub same_line : next.line ≡ c.line
+
+abbrev pub Taking : (text : List ℕ) (c : Cursor) (kind : Kind) → Option (ℕ × Cursor) → Type 0
+Taking text c kind (Some (b, next)) = ByteTaken text c kind b next
+Taking text c kind None = (b : ℕ) (rest : List ℕ) → kind_of b ≡ kind → ¬ (drop c.at text ≡ b ∷ rest)
 
 -- ---- numbers
 

@@ -3,7 +3,7 @@
 ghost use Rattle.std.specs.Prelude.{◌≡◌};
 ghost use Rattle.cursor.specs.Bytes.{kind_of};
 
-#[derive(Drop)]
+#[derive(Clone, Copy, PartialEq, Eq)]
 pub enum Kind {
     Digit,
     Space,
@@ -12,11 +12,11 @@ pub enum Kind {
     Other,
 }
 
-impl Kind {
+impl From<u8> for Kind {
     // The kind of a byte.
-    pub(crate) fn of(b: u8) -> Kind
-        ensures { result ≡ kind_of b }
-    {
+    ghost from_gives = { λ b kind. kind ≡ kind_of b };
+
+    fn from(b: u8) -> Kind {
         match b {
             b'0'..=b'9' => Kind::Digit,
             b' ' => Kind::Space,

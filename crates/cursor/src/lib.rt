@@ -9,7 +9,7 @@
 ghost use Rattle.std.specs.Prelude.{◌≡◌, ◌++◌, suc, ◌≤◌, ◌<◌, min, drop};
 ghost use Rattle.put.specs.Digits.{digits};
 ghost use Rattle.cursor.specs.Steps.{line_limit, Counting, Entering, EnteringTwo};
-ghost use Rattle.cursor.specs.Parts.{Digiting, Numbering, Spacing, Feeding, Wording};
+ghost use Rattle.cursor.specs.Parts.{Taking, Digiting, Numbering, Spacing, Feeding, Wording};
 
 use crate::bytes::Kind;
 
@@ -33,68 +33,48 @@ impl Cursor {
         Cursor { at: 0, line: 1 }
     }
 
+    // One byte of a kind.
+    fn byte(self, text: &[u8], kind: Kind) -> Option<(u8, Cursor)>
+        ensures { Taking text.now self kind result }
+    {
+        let b = *text.get(self.at)?;
+        if Kind::from(b) != kind {
+            return None;
+        }
+        let at = self.at + 1;
+        Some((b, Cursor { at, ..self }))
+    }
+
     // One digit, by its value.
     fn digit(self, text: &[u8]) -> Option<(u16, Cursor)>
         ensures { Digiting text.now self result }
     {
-        let at = self.at;
-        let line = self.line;
-        if text.len() <= at {
-            return None;
-        }
-        let b = text[at];
-        let next = at + 1;
-        if let Kind::Digit = Kind::of(b) {
-            Some(((b - 48) as u16, Cursor { at: next, line }))
-        } else {
-            None
-        }
+        let (b, next) = self.byte(text, Kind::Digit)?;
+        Some((u16::from(b - b'0'), next))
     }
 
     // One space.
     fn space(self, text: &[u8]) -> Option<Cursor>
         ensures { Spacing text.now self result }
     {
-        let at = self.at;
-        let line = self.line;
-        if text.len() <= at {
-            return None;
-        }
-        let b = text[at];
-        let next = at + 1;
-        if let Kind::Space = Kind::of(b) {
-            Some(Cursor { at: next, line })
-        } else {
-            None
-        }
+        let (_, next) = self.byte(text, Kind::Space)?;
+        Some(next)
     }
 
     // The number of the next line.
     fn next_line(self) -> usize
         ensures { result ≡ min (suc self.line) line_limit }
     {
-        if self.line < Cursor::LINES {
-            return self.line + 1;
-        }
-        Cursor::LINES
+        self.line.saturating_add(1).min(Cursor::LINES)
     }
 
-    // One line feed: behind it begins another line.
+    // One line feed, which the last line ends with too: behind it begins another line.
     fn line_feed(self, text: &[u8]) -> Option<Cursor>
         ensures { Feeding text.now self result }
     {
-        let at = self.at;
+        let (_, next) = self.byte(text, Kind::LineFeed)?;
         let line = self.next_line();
-        if text.len() <= at {
-            return None; // The last line ends with a line feed too.
-        }
-        let b = text[at];
-        let next = at + 1;
-        if let Kind::LineFeed = Kind::of(b) {
-            Some(Cursor { at: next, line })
-        } else {
-            None
-        }
+        Some(Cursor { line, ..next })
     }
 
     // Up to three further digits of a number that begins with `first`.
@@ -107,14 +87,12 @@ impl Cursor {
     {
         let mut value = first;
         let mut here = self;
-        let mut left: usize = 3;
-        while left > 0 {
+        for _ in 0..3usize {
             let Some((d, next)) = here.digit(text) else {
                 return Some((value, here));
             };
             value = value * 10 + d;
             here = next;
-            left -= 1;
         }
         Some((value, here))
     }
@@ -138,26 +116,15 @@ impl Cursor {
     fn word(self, text: &[u8], word: &[u8]) -> Option<Cursor>
         ensures { Wording text.now word.now self result }
     {
-        let letters = word.len();
-        let line = self.line;
-        let mut at = self.at;
-        let mut i = 0;
-        while i < letters {
-            if text.len() <= at {
+        let mut here = self;
+        for letter in word {
+            let (b, next) = here.byte(text, Kind::Capital)?;
+            if b != *letter {
                 return None;
             }
-            let b = text[at];
-            if let Kind::Capital = Kind::of(b) {
-                if b != word[i] {
-                    return None;
-                }
-                at += 1;
-                i += 1;
-            } else {
-                return None;
-            }
+            here = next;
         }
-        Some(Cursor { at, line })
+        Some(here)
     }
 
     // A line of one number.

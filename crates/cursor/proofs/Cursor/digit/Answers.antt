@@ -1,16 +1,15 @@
 -- The kind that was found says where the byte lies, so that its value is below ten.
-use Rattle.std.proofs.Common.{sym, ◌∙◌, arith}
+use Rattle.std.proofs.Common.{arith}
 use Rattle.cursor.specs.declared.bytes.Kind.TheVariants.{Digit}
 use Rattle.cursor.proofs.ByteKinds.{lies}
 use Rattle.cursor.proofs.Parts.{digit_not, digit_got}
 use Rattle.cursor.proofs.Cursor.digit.Goals as goal
 
-pub overflow_sub-result : goal.overflow_sub-result
-overflow_sub-result c = omega (arith, lies _ Digit (sym c.in-Digit.ensures))
+pub overflow_sub-b : goal.overflow_sub-b
+overflow_sub-b c = omega (arith, lies _ Digit c.in_ok-b.ensures.of_kind)
 
-pub returns-in-Digit : goal.returns-in-Digit
-returns-in-Digit c = digit_got c.args.text.now c.args.self c.if-text-at.false (sym c.in-Digit.ensures)
+pub returns-in_err-b : goal.returns-in_err-b
+returns-in_err-b c = rw c.from_residual.ensures (digit_not _ c.args.self c.in_err-b.ensures)
 
-pub returns-in_default : goal.returns-in_default
-returns-in_default c =
-    digit_not c.args.text.now c.args.self.at c.if-text-at.false (λ e. c.in_default.not-Digit (c.of.ensures ∙ e))
+pub returns : goal.returns
+returns c = rw c.from.ensures (digit_got c.in_ok-b.ensures)

@@ -1,18 +1,16 @@
--- At each return the tests that led there say whether a byte stands there and of what kind it is.
-use Rattle.std.proofs.Common.{refl, sym, ◌∙◌, arith}
+-- The kind that was found says which byte it is.
+use Rattle.std.proofs.Common.{refl}
 use Rattle.cursor.specs.declared.bytes.Kind.TheVariants.{LineFeed}
 use Rattle.cursor.proofs.ByteKinds.{kind_line_feed, lies}
-use Rattle.cursor.proofs.Parts.{byte_not, byte_on}
+use Rattle.cursor.proofs.Parts.{byte_on}
 use Rattle.cursor.proofs.Cursor.line_feed.Goals as goal
 
-pub returns-in-LineFeed : goal.returns-in-LineFeed
-returns-in-LineFeed c =
-    let found = lies _ LineFeed (sym c.in-LineFeed.ensures) in (
-      byte_on c.args.text.now c.args.self.at 10 c.if-text-at.false found,
-      record { within = omega arith; is_rest = refl; next_line = c.next_line-line.ensures },
-    )
+pub returns-in_err-next : goal.returns-in_err-next
+returns-in_err-next c =
+    rw c.from_residual.ensures (λ rest. c.in_err-next.ensures 10 rest (kind_line_feed 10 refl))
 
-pub returns-in_default : goal.returns-in_default
-returns-in_default c =
-    byte_not c.args.text.now c.args.self.at 10 c.if-text-at.false
-    (λ e. c.in_default.not-LineFeed (c.of.ensures ∙ kind_line_feed _ e))
+pub returns : goal.returns
+returns c = (
+  byte_on 10 c.in_ok-next.ensures (lies _ LineFeed c.in_ok-next.ensures.of_kind),
+  record { within = c.in_ok-next.ensures.within; is_rest = refl; next_line = c.next_line-line.ensures },
+)

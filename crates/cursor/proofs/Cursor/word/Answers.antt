@@ -1,31 +1,30 @@
--- At each return the tests that led there say whether the next letter stands in the text and is a capital one.
-use Rattle.std.proofs.Common.{refl, sym, ◌∙◌}
-use Rattle.cursor.proofs.Parts.{word_begins, word_read, word_ends, word_small, word_differs, word_goes_on}
+-- At each return the byte that was taken, or that none was, says whether the next letter stands in the text.
+use Rattle.std.proofs.Common.{refl, ◌∙◌, arith}
+use Rattle.cursor.proofs.Parts.{word_begins, word_read, word_ends, word_differs, word_goes_on}
 use Rattle.cursor.proofs.Cursor.word.Goals as goal
 
-pub loop-i-init : goal.loop-i-init
-loop-i-init c = word_begins _ _ _
+pub loop-letter-init : goal.loop-letter-init
+loop-letter-init c = (word_begins _ _ _, refl)
 
-pub returns-then-text-at : goal.returns-then-text-at
-returns-then-text-at c =
-    word_ends _ _ _ _ _ c.loop-i-test.true c.loop-i.invariant c.if-text-at.true
+pub returns-in_err-b : goal.returns-in_err-b
+returns-in_err-b c =
+    rw c.from_residual.ensures
+    (word_ends _ _ _ _ c.loop-letter.here (omega arith) c.loop-letter.invariant.0 c.in_err-b.ensures)
 
-pub returns-then-b-word : goal.returns-then-b-word
-returns-then-b-word c =
-    word_differs _ _ _ _ _ c.loop-i-test.true c.loop-i.invariant c.if-text-at.false c.if-b-word.true
+pub returns-then-b-letter : goal.returns-then-b-letter
+returns-then-b-letter c =
+    word_differs _ _ _ _ c.loop-letter.here (omega arith) c.loop-letter.invariant.0 _ _ c.in_ok-b.ensures
+    c.if-b-letter.true
 
-pub loop-i-preserved : goal.loop-i-preserved
-loop-i-preserved c =
-    word_goes_on _ _ _ _ _ c.loop-i-test.true c.loop-i.invariant c.if-text-at.false (sym c.in-Capital.ensures)
-    c.if-b-word.false
-
-pub returns-in_default : goal.returns-in_default
-returns-in_default c =
-    word_small _ _ _ _ _ c.loop-i-test.true c.loop-i.invariant c.if-text-at.false
-    (λ e. c.in_default.not-Capital (c.of.ensures ∙ e))
+pub loop-letter-preserved : goal.loop-letter-preserved
+loop-letter-preserved c = (
+  word_goes_on _ _ _ _ c.loop-letter.here (omega arith) c.loop-letter.invariant.0 _ _ c.in_ok-b.ensures
+      c.if-b-letter.false,
+  c.in_ok-b.ensures.same_line ∙ c.loop-letter.invariant.1,
+)
 
 pub returns : goal.returns
 returns c =
-    let r = word_read c.args.text.now c.args.word.now c.args.self.at c.loop-i.i c.loop-i.at c.loop-i-test.false
-    c.loop-i.invariant in
-    (r.0, r.1, refl)
+    let r = word_read c.args.text.now c.args.word.now c.args.self.at c.loop-letter.letter-index c.loop-letter.here.at
+    (omega arith) c.loop-letter.invariant.0 in
+    (r.0, r.1, c.loop-letter.invariant.1)

@@ -2,7 +2,7 @@
 use Rattle.std.proofs.Common.{sym, arith}
 use Rattle.cursor.proofs.ByteKinds.{kind_digit, kind_space, kind_line_feed, kind_capital}
 use Rattle.cursor.proofs.ByteKinds.{kind_low, kind_between, kind_high}
-use Rattle.cursor.proofs.bytes.Kind.of.Goals as goal
+use Rattle.cursor.proofs.bytes.KindFromU8.from.Goals as goal
 
 pub returns-in-32 : goal.returns-in-32
 returns-in-32 c = sym (kind_space c.args.b (omega arith))
