@@ -46,18 +46,6 @@ const UNREACHED: u16 = 65534;
 // The most rounds that go before the sweeps.
 const ROUNDS: usize = 5;
 
-// The first `nodes` places of the row, marked as not reached.
-fn blank(nodes: usize, row: &mut [u16])
-    requires { nodes ≤ length row.old }
-    ensures { row.new ≡ replicate nodes unreached_mark ++ drop nodes row.old }
-{
-    let mut i: usize = 0;
-    while i < nodes {
-        row[i] = UNREACHED;
-        i += 1;
-    }
-}
-
 // The places of the closed nodes get the mark for "no walk". An entry that is no node is passed over.
 fn shut(nodes: usize, closed: &[u16], row: &mut [u16])
     requires { nodes ≤ length row.old }
@@ -105,18 +93,12 @@ fn look(nodes: usize, clean: bool, a: u16, b: u16, row: &mut [u16]) -> bool
 {
     let first = a as usize;
     let second = b as usize;
-    if !clean {
-        if first >= nodes {
-            return false;
-        }
-        if second >= nodes {
-            return false;
-        }
+    if !clean && (first >= nodes || second >= nodes) {
+        return false;
     }
     let x = row[first];
     let y = row[second];
-    let apart = if x < y { y - x } else { x - y };
-    if apart < 2 {
+    if x.abs_diff(y) < 2 {
         return false;
     }
     if x < y {
@@ -178,10 +160,8 @@ fn spread(nodes: usize, lanes: &[u16], sum: usize, row: &mut [u16]) -> usize
         let b = lanes[2 * k + 1];
         let x = row[a as usize] as usize;
         let y = row[b as usize] as usize;
-        if x + y == sum {
-            if look(nodes, true, a, b, row) {
-                fell += 1;
-            }
+        if x + y == sum && look(nodes, true, a, b, row) {
+            fell += 1;
         }
     }
     fell
@@ -196,10 +176,7 @@ fn spread_near(nodes: usize, clean: bool, lanes: &[u16], row: &mut [u16])
         × (nodes ≤ length row.old) }
     ensures { OnlyFell nodes lanes.now row.old row.new }
 {
-    if !clean {
-        return;
-    }
-    if lanes.len() / 6 < nodes {
+    if !clean || lanes.len() / 6 < nodes {
         return;
     }
     let mut before: usize = 0;
@@ -225,7 +202,7 @@ fn reach(network: &Network, source: u16, row: &mut [u16]) -> usize
     let place = source as usize;
     let top = greatest(lanes) as usize;
     let clean = top < nodes;
-    blank(nodes, row);
+    row[..nodes].fill(UNREACHED);
     shut(nodes, network.closed, row);
     if row[place] == UNREACHED {
         row[place] = 0;
@@ -251,13 +228,7 @@ pub fn distances(network: &Network, source: u16, row: &mut [u16]) -> bool
     let nodes = network.nodes;
     let first = source as usize;
     let places = row.len();
-    if nodes > Job::NODES {
-        return false;
-    }
-    if first >= nodes {
-        return false;
-    }
-    if nodes > places {
+    if nodes > Job::NODES || first >= nodes || nodes > places {
         return false;
     }
     reach(network, source, row);

@@ -1,6 +1,7 @@
 -- Marks and rounds leave the row before the first sweep, each sweep goes on from the one before it, and
 -- after the last the row is filled, once what is not reached has the mark for "no walk".
 use Rattle.std.proofs.Common.{arith}
+use Rattle.std.proofs.lemmas.List.{length-take-le}
 use Rattle.hall.specs.Floor.{Network, network_in}
 use Rattle.walk.proofs.WalkBegun.{Begun, begun_open, begun_closed, Unswept, unswept_spread}
 use Rattle.walk.proofs.WalkGreatest.{clean_greatest}
@@ -14,9 +15,10 @@ spread_near-requires c = (clean_greatest c.args.network.now.nodes c.args.network
 pub loop-todo-init : goal.loop-todo-init
 loop-todo-init c =
     let network : Network = network_in c.args.network.now in
+    let marks = c.fill.ensures.after (λ y e. e) in
     let begun : Begun network c.args.source c.args.row.now c.if-row-place.row = elim c.if-row-place.branch [
-      | then-row-place w ↦ rw w.row-is (begun_open network c.args.row.now c.requires.wide c.blank.ensures c.shut.ensures c.args.source c.requires.numbered w.if-row-place.true)
-      | else-row-place w ↦ rw w.row-is (begun_closed network c.args.row.now c.requires.wide c.blank.ensures c.shut.ensures c.args.source w.if-row-place.false)
+      | then-row-place w ↦ rw w.row-is (begun_open network c.args.row.now c.requires.wide (rw (marks, length-take-le c.args.network.now.nodes c.args.row.now c.requires.wide)) c.shut.ensures c.args.source c.requires.numbered w.if-row-place.true)
+      | else-row-place w ↦ rw w.row-is (begun_closed network c.args.row.now c.requires.wide (rw (marks, length-take-le c.args.network.now.nodes c.args.row.now c.requires.wide)) c.shut.ensures c.args.source w.if-row-place.false)
     ] in
     let unswept : Unswept network c.args.source c.args.row.now c.spread_near.new.row = unswept_spread begun c.spread_near.ensures in
     (walking_first c.requires unswept, unswept)

@@ -3,7 +3,7 @@
 use Rattle.std.proofs.Common.{◌≤◌, length, arith}
 use Rattle.walk.proofs.WalkFalls.{only_fell_none, only_fell_then, only_fell_look}
 use Rattle.walk.proofs.spread.Goals as goal
-use Rattle.walk.proofs.spread.Goals.{then-x-y+then-look, then-x-y+else-look, else-x-y}
+use Rattle.walk.proofs.spread.Goals.{then-x-y+then-look, else-x-y, else-x-y-via-then-x-y+else-look, else-x-y-via-else-x-y}
 
 pub loop-k-init : goal.loop-k-init
 loop-k-init c = (only_fell_none, omega arith)
@@ -14,8 +14,10 @@ loop-k-preserved c =
     let wide : c.args.nodes ≤ length loop.row = omega arith in
     elim c.if-x-y.branch [
       | then-x-y+then-look w ↦ (rw w.row-is (only_fell_then loop.invariant.0 (only_fell_look wide loop.k (omega arith) w.look.ensures)), omega arith)
-      | then-x-y+else-look w ↦ (rw w.row-is (only_fell_then loop.invariant.0 (only_fell_look wide loop.k (omega arith) w.look.ensures)), omega arith)
-      | else-x-y w ↦ (rw w.row-is loop.invariant.0, omega arith)
+      | else-x-y w ↦ elim w.else-x-y.branch [
+        | else-x-y-via-then-x-y+else-look v ↦ (rw (w.row-is, v.row-is) (only_fell_then loop.invariant.0 (only_fell_look wide loop.k (omega arith) v.look.ensures)), omega arith)
+        | else-x-y-via-else-x-y v ↦ (rw (w.row-is, v.row-is) loop.invariant.0, omega arith)
+      ]
     ]
 
 pub returns : goal.returns

@@ -6,9 +6,6 @@ use Rattle.walk.proofs.spread_near.Goals as goal
 pub returns-then-not-clean : goal.returns-then-not-clean
 returns-then-not-clean c = only_fell_none
 
-pub returns-then-lanes-nodes : goal.returns-then-lanes-nodes
-returns-then-lanes-nodes c = only_fell_none
-
 pub loop-far-init : goal.loop-far-init
 loop-far-init c = (only_fell_none, omega arith)
 
