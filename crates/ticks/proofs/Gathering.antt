@@ -1,6 +1,6 @@
 -- The held list fills up place by place: nothing is asked of it at first, and one more carrier written at the
--- next place is one more place that is as gathered, since earlier places keep what they hold, and so do the
--- numbers after it. The first places of an order that is served can be gathered. A filled list permits what
+-- next place is one more place that is as gathered, since earlier places keep what they hold, and so do those
+-- after it. The first places of an order that is served can be gathered. A filled list permits what
 -- the carriers before the new one permit: callers cite `lent_smallest`. Assumes nothing.
 use mathlib.Core.Path.{◌≡◌, refl, ◌∙◌, ap, subst}
 use mathlib.Core.Bool.{Bool, true, false}

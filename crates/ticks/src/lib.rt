@@ -29,25 +29,16 @@ fn pair_of(table: &[u16], i: Carrier, j: Carrier) -> Pair
     requires { (table_length ≤ length table.now) × (i.0 < carrier_limit) × (j.0 < carrier_limit) }
     ensures { pair_in result ≡ pair_of (tables_in table.now) i.0 j.0 }
 {
-    let a = i.0 as usize;
-    let b = j.0 as usize;
-    let there = Job::CARRIERS * a + b;
-    let back = Job::CARRIERS * b + a;
-    let own_i = Job::CARRIERS * a + a;
-    let own_j = Job::CARRIERS * b + b;
-    let ss = table[there] as u32;
-    let gg = table[2 * Job::BLOCK + there] as u32;
-    let ii = table[Job::BLOCK + own_i] as u32;
-    let jj = table[Job::BLOCK + own_j] as u32;
-    let ij = table[Job::BLOCK + there] as u32;
-    let ji = table[Job::BLOCK + back] as u32;
+    let distance = |block: usize, from: Carrier, to: Carrier| {
+        table[block + (Job::CARRIERS * from.0 as usize + to.0 as usize)] as u32
+    };
     Pair {
-        ss,
-        gg,
-        ii,
-        jj,
-        ij,
-        ji,
+        ss: distance(0, i, j),
+        gg: distance(2 * Job::BLOCK, i, j),
+        ii: distance(Job::BLOCK, i, i),
+        jj: distance(Job::BLOCK, j, j),
+        ij: distance(Job::BLOCK, i, j),
+        ji: distance(Job::BLOCK, j, i),
     }
 }
 

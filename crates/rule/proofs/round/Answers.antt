@@ -1,8 +1,6 @@
--- A round begins where nothing has moved yet, goes on by the first tick that the next carrier permits, and ends when
--- all have been asked (`Reach`).
-use Rattle.std.proofs.Common.{arith}
+-- A round begins where nothing has moved yet, and goes on by the first tick that the next carrier permits (`Reach`).
 use Rattle.rule.specs.Held.{held_pair, held_tick}
-use Rattle.rule.proofs.Reach.{round_begins, round_on, round_ends}
+use Rattle.rule.proofs.Reach.{round_begins, round_on}
 use Rattle.rule.proofs.round.Goals as goal
 
 pub loop-carrier-init : goal.loop-carrier-init
@@ -15,6 +13,3 @@ loop-carrier-preserved c =
     let free = c.free_from-tick in
     round_on c.args.dwell c.args.held.now c.args.from loop.carrier-index loop.tick free.result
     c.loop-carrier-test.true loop.invariant free.ensures.smallest free.ensures.within
-
-pub returns : goal.returns
-returns c = round_ends c.args.dwell c.args.held.now c.args.from (omega arith) c.loop-carrier.invariant

@@ -5,19 +5,14 @@ use Rattle.std.proofs.Common.{ℕ, ◌*◌, ◌≤◌, length, get_or, slice_set
 use Rattle.hall.specs.Ticks.{SmallestFrom, PermittedBy, PermittedAt, pair_of}
 use Rattle.hall.specs.Plan.{tables_in}
 use Rattle.ticks.proofs.Order.{number_below}
-use Rattle.ticks.proofs.Gathering.{order_gathers, served_gathered, gathering_length, lent_smallest}
+use Rattle.ticks.proofs.Gathering.{order_gathers, served_gathered, lent_smallest}
 use Rattle.ticks.proofs.Places.{next_early}
 use Rattle.ticks.proofs.place_next.Goals as goal
 use Rattle.ticks.proofs.place_next.Goals.{After-gather, After-first_tick-tick}
 
 -- the gathered list has the places before q
 fits : (c : After-gather) → c.args.q.0 ≤ length c.gather.new.held
-fits c =
-    let a = c.args in
-    let size =
-    gathering_length a.table.now a.order.now a.ticks.now a.q.0 c.carrier-new.result.0 _ _
-    c.gather.result c.gather.ensures
-    in omega (arith, size, c.requires.0.few_places, c.requires.1)
+fits c = omega (arith, c.requires.0.few_places, c.requires.1)
 
 -- the first tick by the gathered list is the smallest at the place
 smallest : (c : After-first_tick-tick) →
