@@ -63,8 +63,10 @@ fn gather_served(
     {
         return false;
     }
-    order[..end].iter().all(|placed| (*placed as usize) < Job::CARRIERS
-        && (*placed as usize) < timed)
+    order[..end].iter().all(|placed| {
+        let number = *placed as usize;
+        number < Job::CARRIERS && number < timed
+    })
 }
 
 // The carriers at the places before q, each held with its tick and its pair with the new carrier, which need
