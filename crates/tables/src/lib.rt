@@ -28,15 +28,7 @@ fn all_nodes(nodes: usize, moves: &[u16]) -> bool
     ensures { Answers result (EachBelow moves.now nodes) }
 {
     let end = moves.len() / 2 * 2;
-    let mut i: usize = 0;
-    while i < end {
-        let node = moves[i] as usize;
-        if node >= nodes {
-            return false;
-        }
-        i += 1;
-    }
-    true
+    moves[..end].iter().all(|&node| (node as usize) < nodes)
 }
 
 // Copies the row's distances at the starts (offset 0) or the goals (offset 1) of the moves to the table, from
@@ -49,12 +41,9 @@ fn copy_row(row: &[u16], moves: &[u16], offset: usize, base: usize, table: &mut 
         offset (move_count moves.now) base
         table.old table.new }
 {
-    let count = moves.len() / 2;
-    let mut j: usize = 0;
-    while j < count {
-        let node = moves[2 * j + offset] as usize;
-        table[base + j] = row[node];
-        j += 1;
+    for j in 0..moves.len() / 2 {
+        let node = moves[2 * j + offset];
+        table[base + j] = row[node as usize];
     }
 }
 
@@ -71,17 +60,12 @@ fn copy_rows(row: &[u16], moves: &[u16], node: u16, block: usize, table: &mut [u
         node block (move_count moves.now)
         table.old table.new }
 {
-    let count = moves.len() / 2;
     let from = block / 2;
     let to = (block + 1) / 2;
-    let mut i: usize = 0;
-    while i < count {
-        let base = Job::BLOCK * block + Job::CARRIERS * i;
+    for i in 0..moves.len() / 2 {
         if moves[2 * i + from] == node {
+            let base = Job::BLOCK * block + Job::CARRIERS * i;
             copy_row(row, moves, to, base, table);
-            i += 1;
-        } else {
-            i += 1;
         }
     }
 }
@@ -106,14 +90,7 @@ fn came_before(moves: &[u16], end: usize, node: u16) -> bool
     requires { end ≤ length moves.now }
     ensures { Answers result (CameBefore moves.now end node) }
 {
-    let mut x: usize = 0;
-    while x < end {
-        if moves[x] == node {
-            return true;
-        }
-        x += 1;
-    }
-    false
+    moves[..end].contains(&node)
 }
 
 // The rows of all carriers, over a table whose first places are zero. A node that came before, as a start or
@@ -126,14 +103,10 @@ fn fill_all(network: &Network, moves: &[u16], table: &mut [u16])
         table.old table.new }
 {
     let ends = moves.len() / 2 * 2;
-    let mut x: usize = 0;
-    while x < ends {
+    for x in 0..ends {
         let node = moves[x];
-        if came_before(moves, x, node) {
-            x += 1;
-        } else {
+        if !came_before(moves, x, node) {
             fill_node(network, moves, node, table);
-            x += 1;
         }
     }
 }
@@ -145,14 +118,7 @@ pub fn fill(network: &Network, moves: &[u16], table: &mut [u16]) -> bool
         table.old table.new result }
 {
     let count = moves.len() / 2;
-    let room = table.len();
-    if network.nodes > Job::NODES {
-        return false;
-    }
-    if count > Job::CARRIERS {
-        return false;
-    }
-    if room < Job::TABLE {
+    if network.nodes > Job::NODES || count > Job::CARRIERS || table.len() < Job::TABLE {
         return false;
     }
     if !all_nodes(network.nodes, moves) {
@@ -169,19 +135,14 @@ pub fn fill(network: &Network, moves: &[u16], table: &mut [u16]) -> bool
 pub fn first_unreached(table: &[u16], carriers: usize) -> Option<Carrier>
     ensures { Reaching table.now carriers (said_reach result) }
 {
-    if table.len() < Job::TABLE {
+    if table.len() < Job::TABLE || carriers > Job::CARRIERS {
         return None;
     }
-    if carriers > Job::CARRIERS {
-        return None;
-    }
-    let mut i: usize = 0;
-    while i < carriers {
+    for i in 0..carriers {
         let at = Job::BLOCK + (Job::CARRIERS * i + i);
         if table[at] == Job::NO_WALK {
             return Some(Carrier(i as u16));
         }
-        i += 1;
     }
     None
 }
@@ -196,12 +157,8 @@ fn copy_own(table: &[u16], carriers: usize, distances: &mut [u16])
         carriers
         distances.old distances.new }
 {
-    let mut i: usize = 0;
-    while i < carriers {
-        let at = Job::CARRIERS * i + i;
-        let own = table[Job::BLOCK + at];
-        distances[i] = own;
-        i += 1;
+    for i in 0..carriers {
+        distances[i] = table[Job::BLOCK + (Job::CARRIERS * i + i)];
     }
 }
 

@@ -1,11 +1,7 @@
 -- The invariant of `copy_own`: the own distances of the first i carriers are copied, and nothing else
 -- changed. The measure is how many carriers are left.
-use Rattle.std.proofs.Common.{◌-◌, ◌≤◌}
 use Rattle.tables.specs.Measuring.{OwnCopied}
 use Rattle.tables.proofs.copy_own.Given as goal
 
 abbrev pub invariant-loop-i : goal.invariant-loop-i
-invariant-loop-i l = (l.i ≤ l.carriers) × OwnCopied l.table l.i l.initial.distances l.distances
-
-abbrev pub decreases-loop-i : goal.decreases-loop-i
-decreases-loop-i l = l.carriers - l.i
+invariant-loop-i l = OwnCopied l.table l.i l.initial.distances l.distances

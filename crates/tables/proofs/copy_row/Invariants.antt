@@ -1,11 +1,7 @@
 -- The invariant of `copy_row`: the row is copied for the moves before j, `RowCopied` so far. The measure
 -- is how many moves are left.
-use Rattle.std.proofs.Common.{◌-◌, ◌≤◌}
 use Rattle.tables.specs.Blocks.{RowCopied}
 use Rattle.tables.proofs.copy_row.Given as goal
 
 abbrev pub invariant-loop-j : goal.invariant-loop-j
-invariant-loop-j l = (l.j ≤ l.count) × RowCopied l.row l.moves l.offset l.j l.base l.initial.table l.table
-
-abbrev pub decreases-loop-j : goal.decreases-loop-j
-decreases-loop-j l = l.count - l.j
+invariant-loop-j l = RowCopied l.row l.moves l.offset l.j l.base l.initial.table l.table

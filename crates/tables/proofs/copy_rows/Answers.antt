@@ -3,21 +3,20 @@ use Rattle.std.proofs.Common.{◌≡◌, refl, arith}
 use Rattle.hall.specs.Job.{move_count}
 use Rattle.tables.proofs.Rows.{rows_none, rows_more, rows_passed}
 use Rattle.tables.proofs.copy_rows.Goals as goal
+use Rattle.tables.proofs.copy_rows.Goals.{then-moves-i, else-moves-i}
 
 pub loop-i-init : goal.loop-i-init
-loop-i-init c = (omega arith, rows_none _ _ _ _ _)
-
-pub loop-i-preserved-then-moves-i : goal.loop-i-preserved-then-moves-i
-loop-i-preserved-then-moves-i c =
-    let loop = c.loop-i in
-    (omega arith, rows_more _ _ _ _ _ loop.i loop.table loop.invariant.1 c.requires.1 refl refl refl c.if-moves-i.true c.copy_row.ensures)
+loop-i-init c = rows_none _ _ _ _ _
 
 pub loop-i-preserved : goal.loop-i-preserved
 loop-i-preserved c =
     let loop = c.loop-i in
-    (omega arith, rows_passed _ _ _ _ _ loop.i loop.table loop.invariant.1 refl c.if-moves-i.false)
+    elim c.if-moves-i.branch [
+      | then-moves-i w ↦ rw w.table-is (rows_more _ _ _ _ _ loop.i loop.table loop.invariant c.requires.1 refl refl refl w.if-moves-i.true w.copy_row.ensures)
+      | else-moves-i w ↦ rw w.table-is (rows_passed _ _ _ _ _ loop.i loop.table loop.invariant refl w.if-moves-i.false)
+    ]
 
 pub returns : goal.returns
 returns c =
     let all : c.loop-i.i ≡ move_count c.args.moves.now = omega arith in
-    rw (← all) c.loop-i.invariant.1
+    rw (← all) c.loop-i.invariant

@@ -1,13 +1,9 @@
 -- The invariant of `fill_all`: the rows that begin at one of the first x starts and goals are filled, and
 -- a place in no row is as it came, `FilledTo`. The measure is how many starts and goals are left.
-use Rattle.std.proofs.Common.{◌-◌, ◌≤◌}
 use Rattle.hall.specs.Floor.{network_in}
 use Rattle.tables.proofs.Blocks.{FilledTo}
 use Rattle.tables.proofs.fill_all.Given as goal
 
 abbrev pub invariant-loop-x : goal.invariant-loop-x
 invariant-loop-x l =
-    (l.x ≤ l.ends) × FilledTo (network_in l.network) l.moves l.initial.table l.x l.table
-
-abbrev pub decreases-loop-x : goal.decreases-loop-x
-decreases-loop-x l = l.ends - l.x
+    FilledTo (network_in l.network) l.moves l.initial.table l.x l.table

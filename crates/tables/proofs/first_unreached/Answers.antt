@@ -12,12 +12,12 @@ returns-then-table-at c = (
     few_carriers = omega arith;
     is_carrier = omega arith;
     marked = c.if-table-at.true;
-    none_lower = c.loop-i.invariant.1;
+    none_lower = c.loop-i.invariant;
   },
 )
 
 pub loop-i-preserved : goal.loop-i-preserved
-loop-i-preserved c = (omega arith, below_more _ _ c.loop-i.invariant.1 c.if-table-at.false)
+loop-i-preserved c = below_more _ _ c.loop-i.invariant c.if-table-at.false
 
 pub returns : goal.returns
-returns c = looked (omega arith) (omega arith) (λ x h. c.loop-i.invariant.1 x (omega arith))
+returns c = looked (omega arith) (omega arith) (λ x h. c.loop-i.invariant x (omega arith))
