@@ -1,27 +1,27 @@
 -- The parts of a line at a place of the text: the rest from there on is the byte that stands there and the
 -- rest behind it, so that the byte's kind decides. Assumes nothing.
 --     byte_on        the byte that was taken, by its number
---     digit_got, digit_not    the answer to the question for a digit, by that for a byte of its kind
+--     digit_got      a digit was taken, by the byte of its kind
 --     WordSoFar      so many letters of a word are capital letters and stand in front of this place
 --     DigitsSoFar    the digits of the value so far were taken. The value leaves room for the digits that may
 --                    still come (`digit_room`), so that no number passes 9,999, and has all those that came
 use mathlib.Core.Path.{◌≡◌, refl, sym, ◌∙◌, ap}
-use mathlib.Core.Logic.{inl, inr}
+use mathlib.Core.Logic.{inl}
 use mathlib.Core.List.{List, [], ◌∷◌, ◌++◌, append_assoc}
 use Prim.Native.Nat.{ℕ, zero, suc, ◌+◌, ◌*◌, ◌-◌, ◌≤◌, ◌<◌}
 use native.Mathlib.Numerals.{add-one}
 use native.Mathlib.Omega.{arith}
-use lib.ListN.{length, get_or, drop, drop_of_length-le}
+use lib.ListN.{length, get_or, drop}
 use lib.Seq.{drop-cons}
 use Rattle.put.specs.Digits.{digit, digits}
 use Rattle.put.proofs.Digits.{below_ten, digit_behind}
-use Rattle.form.proofs.Cuts.{head_same, tail_same}
+use Rattle.form.proofs.Cuts.{tail_same}
 use Rattle.cursor.specs.declared.bytes.Kind.{Kind}
 use Rattle.cursor.specs.declared.bytes.Kind.TheVariants.{Digit, Capital}
 use Rattle.cursor.specs.declared.Cursor.{Cursor}
 use Rattle.std.specs.Prelude.{Option, None}
-use Rattle.cursor.specs.Bytes.{kind_of, Capitals}
-use Rattle.cursor.specs.Parts.{ByteTaken, Taking, NoDigit, DigitTaken, NumberTaken, Numbering}
+use Rattle.cursor.specs.Bytes.{Capitals}
+use Rattle.cursor.specs.Parts.{ByteTaken, Taking, DigitTaken, NumberTaken, Numbering}
 use Rattle.cursor.proofs.ByteKinds.{kind_capital, lies}
 
 -- ---- one byte
@@ -43,13 +43,6 @@ module _ {text : List ℕ} {c : Cursor} {b : ℕ} {next : Cursor} where
         same_line = x.same_line;
       }
 
-pub digit_not : (text : List ℕ) (c : Cursor) → Taking text c Digit None → NoDigit (drop c.at text)
-digit_not text c none = at_front (drop c.at text) none
-  where
-    at_front : (t : List ℕ) → ((b : ℕ) (rest : List ℕ) → kind_of b ≡ Digit → ¬ (t ≡ b ∷ rest)) → NoDigit t
-    at_front [] n = tt
-    at_front (b ∷ t) n = λ e. n b t e refl
-
 -- ---- the letters of a word
 
 -- the letters from place i on are asked at place `at`
@@ -60,15 +53,6 @@ pub record WordSoFar (text word : List ℕ) (start i at : ℕ) : Type 0 where
   pub theirs : Capitals word → Capitals (drop i word)
 
 module _ (text word : List ℕ) (start : ℕ) where
-  pub word_begins : WordSoFar text word start 0 start
-  word_begins = record { here = λ rest e. e; back = λ rest e. e; ours = λ x. x; theirs = λ x. x }
-
-  pub word_read : (i at : ℕ) → length word ≤ i → WordSoFar text word start i at
-      → (drop start text ≡ word ++ drop at text) × Capitals word
-  word_read i at h w =
-      let none = drop_of_length-le word h in
-      (w.here (drop at text) (rw none refl), w.ours (rw none tt))
-
   module _ (i : ℕ) (here : Cursor) (inside : i < length word) (w : WordSoFar text word start i here.at) where
     letter : drop i word ≡ get_or word i 0 ∷ drop (i + 1) word
     letter = front word i inside
@@ -86,10 +70,6 @@ module _ (text word : List ℕ) (start : ℕ) where
         (stands rest e)
 
     module _ (b : ℕ) (next : Cursor) (x : ByteTaken text here Capital b next) where
-      pub word_differs : ¬ (b ≡ get_or word i 0) → Capitals word → (rest : List ℕ)
-          → ¬ (drop start text ≡ word ++ rest)
-      word_differs n caps rest e = n (head_same (sym x.begins ∙ stands rest e))
-
       pub word_goes_on : b ≡ get_or word i 0 → WordSoFar text word start (i + 1) next.at
       word_goes_on e = record {
         here = λ rest h.
@@ -117,11 +97,6 @@ pub record DigitsSoFar (text t : List ℕ) (line value : ℕ) (here : Cursor) (l
   pub few : left ≤ 3
   pub same_line : here.line ≡ line
 
-room_low : (l : ℕ) → digit_room (suc l) ≤ 1000
-room_low zero = omega arith
-room_low (suc zero) = omega arith
-room_low (suc (suc l)) = omega arith
-
 room_high : (l : ℕ) → 10 ≤ digit_room l
 room_high zero = omega arith
 room_high (suc zero) = omega arith
@@ -135,10 +110,6 @@ room_tenth (suc (suc zero)) h = refl
 room_tenth (suc (suc (suc l))) h = absurd (let x : ⊥ = omega arith in x)
 
 module _ (text t : List ℕ) (line value : ℕ) (here : Cursor) where
-  pub digits_low : (left : ℕ) → 0 < left → DigitsSoFar text t line value here left → value < 1000
-  digits_low zero h i = absurd (let x : ⊥ = omega arith in x)
-  digits_low (suc l) h i = omega (arith, i.fits, room_low l)
-
   pub digits_next : (left d : ℕ) (next : Cursor) → 0 < left → DigitsSoFar text t line value here left
       → DigitTaken text here d next → DigitsSoFar text t line (value * 10 + d) next (left - 1)
   digits_next zero d next h i n = absurd (let x : ⊥ = omega arith in x)
@@ -156,35 +127,6 @@ module _ (text t : List ℕ) (line value : ℕ) (here : Cursor) where
         few = omega (arith, i.few);
         same_line = n.same_line ∙ i.same_line;
       })
-
-  below_limit : (left : ℕ) → value < digit_room left → value < 10000
-  below_limit zero h = h
-  below_limit (suc l) h = omega (arith, room_low l)
-
-  pub digits_stop : (left : ℕ) → DigitsSoFar text t line value here left → NoDigit (drop here.at text)
-      → NumberTaken text t line value here
-  digits_stop left i n = record {
-    small = below_limit left i.fits;
-    begins = i.begins;
-    ends = inr (inr n);
-    same_line = i.same_line;
-  }
-
-  pub digits_full : (left : ℕ) → left ≡ 0 → DigitsSoFar text t line value here left
-      → NumberTaken text t line value here
-  digits_full left e i =
-      let full = rw e at i.full in
-      record {
-        small = below_limit left i.fits;
-        begins = i.begins;
-        ends = inr (inl (omega arith));
-        same_line = i.same_line;
-      }
-
-pub digits_begin : (text t : List ℕ) (first : ℕ) (here : Cursor) → 1 ≤ first → first < 10
-    → t ≡ digits first ++ drop here.at text → DigitsSoFar text t here.line first here 3
-digits_begin text t first here h k e =
-    record { begins = e; fits = k; full = omega arith; few = omega arith; same_line = refl }
 
 -- ---- a number from its first digit on
 

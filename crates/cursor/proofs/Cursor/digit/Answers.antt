@@ -2,14 +2,11 @@
 use Rattle.std.proofs.Common.{arith}
 use Rattle.cursor.specs.declared.bytes.Kind.TheVariants.{Digit}
 use Rattle.cursor.proofs.ByteKinds.{lies}
-use Rattle.cursor.proofs.Parts.{digit_not, digit_got}
+use Rattle.cursor.proofs.Parts.{digit_got}
 use Rattle.cursor.proofs.Cursor.digit.Goals as goal
 
 pub overflow_sub-b : goal.overflow_sub-b
 overflow_sub-b c = omega (arith, lies _ Digit c.in_ok-b.ensures.of_kind)
-
-pub returns-in_err-b : goal.returns-in_err-b
-returns-in_err-b c = rw c.from_residual.ensures (digit_not _ c.args.self c.in_err-b.ensures)
 
 pub returns : goal.returns
 returns c = rw c.from.ensures (digit_got c.in_ok-b.ensures)
