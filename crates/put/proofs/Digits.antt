@@ -5,6 +5,7 @@
 -- nothing.
 --     below_ten, ten_up    the digits of a number below ten; those of any other, by its tenth's
 --     two_digits, three_digits, four_digits    those of a number below 10,000, one by one
+--     leading_digits       those of a number below 10,000 by powers of ten, each where the number has it
 --     digit_behind         a digit behind those of a number writes ten times the number and the digit
 --     digits_value         the digits write the number; digits_unique so they tell it
 --     digits_some          there are some; digits_leading a first zero is alone
@@ -19,6 +20,7 @@ use native.Mathlib.Nat.{not-suc-le-zero, pow-succ', one-le-pow}
 use native.Mathlib.Omega.{arith}
 use borrow.Author.Tests.{ltb-true, ltb-false, lt-ltb, le-ltb}
 use lib.Dec.{ltb}
+use Rattle.std.specs.Prelude.{cond}
 use lib.ListN.{length, get_or, length-append, get_or-append}
 use Rattle.put.specs.Digits.{digit, digits_up_to, digits, value_of}
 
@@ -81,6 +83,37 @@ four_digits n h l =
     ten_up n (omega arith)
     ∙ ap (λ (t : List ℕ). t ++ digit (n % 10) ∷ []) (three_digits (n / 10) (omega arith) (omega arith))
     ∙ (λ i. digit (first i) ∷ digit (second i) ∷ digit (n / 10 % 10) ∷ digit (n % 10) ∷ [])
+
+-- the digit of a number below 10,000 at a power of ten, where the number has it
+abbrev pub leading : (power n : ℕ) → List ℕ
+leading power n = cond (ltb n power) [] (digit (n / power % 10) ∷ [])
+
+pub leads : (power n : ℕ) → power ≤ n → leading power n ≡ digit (n / power % 10) ∷ []
+leads power n h = rw (le-ltb n power h)
+
+pub leads_not : (power n : ℕ) → n < power → leading power n ≡ []
+leads_not power n h = rw (lt-ltb n power h)
+
+pub leading_digits : (n : ℕ) → n < 10000 →
+    digits n ≡ leading 1000 n ++ (leading 100 n ++ (leading 10 n ++ digit (n % 10) ∷ []))
+leading_digits n h = cases (below_or_not n 10) (below_or_not n 100) (below_or_not n 1000)
+  where
+    first : n / 1000 % 10 ≡ n / 1000
+    first = omega arith
+
+    cases : (n < 10) ⊎ (10 ≤ n) → (n < 100) ⊎ (100 ≤ n) → (n < 1000) ⊎ (1000 ≤ n) →
+        digits n ≡ leading 1000 n ++ (leading 100 n ++ (leading 10 n ++ digit (n % 10) ∷ []))
+    cases (inl a) _ _ =
+        let one : n % 10 ≡ n = omega arith in
+        rw (leads_not 1000 n (omega arith), leads_not 100 n (omega arith), leads_not 10 n a, one) (below_ten n a)
+    cases (inr a) (inl b) _ =
+        let ten : n / 10 % 10 ≡ n / 10 = omega arith in
+        rw (leads_not 1000 n (omega arith), leads_not 100 n b, leads 10 n a, ten) (two_digits n a b)
+    cases (inr a) (inr b) (inl c) =
+        let hundred : n / 100 % 10 ≡ n / 100 = omega arith in
+        rw (leads_not 1000 n c, leads 100 n b, leads 10 n a, hundred) (three_digits n b c)
+    cases (inr a) (inr b) (inr c) =
+        rw (leads 1000 n c, leads 100 n b, leads 10 n a, first) (four_digits n c h)
 
 pub digit_behind : (v d : ℕ) → 1 ≤ v → d < 10 → digits (v * 10 + d) ≡ digits v ++ digit d ∷ []
 digit_behind v d some h =

@@ -2,19 +2,20 @@
 -- run (`put_then`), and one byte is a store. By induction over the list and the place; beyond the end nothing
 -- is put, and there a second run adds nothing to the first. Where there is room, what is put at the front is
 -- the bytes with the rest behind them. Assumes nothing.
---     put_then       two runs are one
+--     put_then       two runs are one; puts_then the same of an `Out`
 --     put_closed     a text at the front and zeros behind it up to a least length fill the list
---     put_unique     two outcomes that fit the promise are equal
+--     put_unique     two outcomes that fit the promise are equal; puts_unique the same of an `Out`
 use mathlib.Core.Path.{◌≡◌, refl, sym, ◌∙◌, ap}
 use mathlib.Core.List.{List, [], ◌∷◌, ◌++◌, append_assoc}
-use Prim.Native.Nat.{ℕ, zero, suc, ◌+◌, ◌-◌, ◌≤◌, ◌<◌, max}
+use Prim.Native.Nat.{ℕ, zero, suc, ◌+◌, ◌-◌, ◌≤◌, ◌<◌, max, min}
 use native.Mathlib.Nat.{not-suc-le-zero, le_of_suc-le-suc, suc-add, zero-add}
 use native.Mathlib.Decide.{dec_lt}
 use native.Mathlib.Numerals.{add-one}
 use native.Mathlib.Omega.{arith}
 use lib.ListN.{length, drop, set, take, get_or, replicate, length-append, length-replicate, replicate-append-replicate}
 use lib.Seq.{take-suc}
-use Rattle.put.specs.Putting.{overwritten, past, Put}
+use Rattle.put.specs.declared.Out.{Out}
+use Rattle.put.specs.Putting.{overwritten, past, Put, Puts}
 
 pub put_length : (at : ℕ) (bytes out : List ℕ) → length (overwritten at bytes out) ≡ length out
 unfolding overwritten
@@ -108,6 +109,21 @@ pub put_unique : {out a b bytes : List ℕ} {at r s : ℕ} → Put out at bytes 
     → (a ≡ b) × (r ≡ s)
 put_unique p q = (p.stand ∙ sym q.stand, p.past_them ∙ sym q.past_them)
 
+-- ---- the same of an `Out`
+
+pub puts_none : (o : Out) → Puts o [] o
+puts_none o = record { same_list = refl; put = put_none o.bytes.now o.at }
+
+pub puts_then : {o p q : Out} {a b : List ℕ} → Puts o a p → Puts p b q → Puts o (a ++ b) q
+puts_then first second = record {
+  same_list = second.same_list ∙ first.same_list;
+  put = put_then first.put second.put;
+}
+
+pub puts_unique : {o p q : Out} {bytes : List ℕ} → Puts o bytes p → Puts o bytes q
+    → (p.bytes.ghost_name ≡ q.bytes.ghost_name) × (p.bytes.now ≡ q.bytes.now) × (p.at ≡ q.at)
+puts_unique x y = let e = put_unique x.put y.put in (x.same_list ∙ sym y.same_list, e.0, e.1)
+
 -- ---- loops
 
 -- a byte more of a word
@@ -115,6 +131,13 @@ pub put_more : (bytes : List ℕ) {out out₁ out₂ : List ℕ} {at r₁ r₂ :
     → Put out at (take i bytes) out₁ r₁ → Put out₁ r₁ (get_or bytes i 0 ∷ []) out₂ r₂
     → Put out at (take (i + 1) bytes) out₂ r₂
 put_more bytes i h first second = rw (add-one, take-suc bytes i 0) (put_then first second)
+
+pub puts_more : (bytes : List ℕ) {o p q : Out} (i : ℕ) → i < length bytes
+    → Puts o (take i bytes) p → Puts p (get_or bytes i 0 ∷ []) q → Puts o (take (i + 1) bytes) q
+puts_more bytes i h first second = record {
+  same_list = second.same_list ∙ first.same_list;
+  put = put_more bytes i h first.put second.put;
+}
 
 -- zeros from a place on, as far as a loop has come
 pub record Zeroing (out : List ℕ) (at least : ℕ) (out₁ : List ℕ) (i : ℕ) : Type 0 where
@@ -164,6 +187,14 @@ module _ {out : List ℕ} {at least : ℕ} where
         let parts : i - at + (least - i) ≡ least - at = omega (arith, z.from) in
         let over = put_beyond i (replicate (least - i) 0) out₁ (omega (arith, zeros_kept)) in
         sym over ∙ further (least - i) ∙ ap (λ (n : ℕ). overwritten at (replicate n 0) out) parts
+
+    -- where a loop ends
+    pub zeros_done : min least (length out) ≤ i → out₁ ≡ overwritten at (replicate (least - at) 0) out
+    zeros_done h = cases (dec_lt i least)
+      where
+        cases : Dec (i < least) → out₁ ≡ overwritten at (replicate (least - at) 0) out
+        cases (yes below) = zeros_cut below (omega arith)
+        cases (no past) = zeros_whole (omega arith)
 
 -- ---- a text at the front, and zeros behind it
 

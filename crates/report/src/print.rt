@@ -5,54 +5,39 @@
 // distance or a tick, nothing is printed and the answer is 0. Every text that can be asked for fits into
 // 2,048 bytes, so nothing of it is dropped.
 ghost use Rattle.std.specs.Prelude.{◌≤◌, length, get_or};
-ghost use Rattle.put.specs.Putting.{Put};
+ghost use Rattle.put.specs.Putting.{Puts};
 ghost use Rattle.report.specs.Printed.{carrier_line, carrier_lines};
 ghost use Rattle.report.specs.Printing.{PlanPrinting, RefusedPrinting};
 
 use hall::Job;
+use put::Out;
 
 // The least length of the bytes that are lent.
 pub const ROOM: usize = 2048;
 
 // A carrier's line: its number, start tick, distance and goal tick.
-fn put_carrier(carrier: usize, tick: u32, distance: u16, out: &mut [u8], at: usize) -> usize
-    ensures { Put
-        out.old at
-        (carrier_line carrier tick distance)
-        out.new result }
+fn put_carrier(carrier: usize, tick: u32, distance: u16, text: &mut Out)
+    ensures { Puts text.old (carrier_line carrier tick distance) text.new }
 {
     let start = tick as usize;
     let way = distance as usize;
-    let goal = start + way;
-    let second = put::field(carrier, b' ', out, at);
-    let third = put::field(start, b' ', out, second);
-    let fourth = put::field(way, b' ', out, third);
-    put::field(goal, b'\n', out, fourth)
+    text.field(carrier, b' ');
+    text.field(start, b' ');
+    text.field(way, b' ');
+    text.field(start + way, b'\n');
 }
 
 // The carriers' lines, by carrier number.
-fn put_carriers(
-    carriers: usize,
-    distances: &[u16],
-    ticks: &[u32],
-    out: &mut [u8],
-    at: usize,
-) -> usize
+fn put_carriers(carriers: usize, distances: &[u16], ticks: &[u32], text: &mut Out)
     requires { (carriers ≤ length distances.now) × (carriers ≤ length ticks.now) }
-    ensures { Put
-        out.old at
+    ensures { Puts
+        text.old
         (carrier_lines carriers (λ i. get_or ticks.now i 0) (λ i. get_or distances.now i 0))
-        out.new result }
+        text.new }
 {
-    let mut next = at;
-    let mut i: usize = 0;
-    while i < carriers {
-        let tick = ticks[i];
-        let distance = distances[i];
-        next = put_carrier(i, tick, distance, out, next);
-        i += 1;
+    for carrier in 0..carriers {
+        put_carrier(carrier, ticks[carrier], distances[carrier], text);
     }
-    next
 }
 
 // The text of a plan: how many carriers there are, their lines, and the cost.
@@ -68,25 +53,21 @@ pub fn print_plan(
         out.old out.new
         result }
 {
-    if carriers > Job::CARRIERS {
+    if carriers > Job::CARRIERS
+        || distances.len() < carriers
+        || ticks.len() < carriers
+        || out.len() < ROOM
+    {
         return 0;
     }
-    if distances.len() < carriers {
-        return 0;
-    }
-    if ticks.len() < carriers {
-        return 0;
-    }
-    if out.len() < ROOM {
-        return 0;
-    }
-    let head = put::word(b"PLAN ", out, 0);
-    let lines = put::field(carriers, b'\n', out, head);
-    let tail = put_carriers(carriers, distances, ticks, out, lines);
-    let sum = put::word(b"COST ", out, tail);
-    let size = put::field(cost as usize, b'\n', out, sum);
-    put::zero_rest(out, size, ROOM);
-    size
+    let mut text = Out { bytes: out, at: 0 };
+    text.word(b"PLAN ");
+    text.field(carriers, b'\n');
+    put_carriers(carriers, distances, ticks, &mut text);
+    text.word(b"COST ");
+    text.field(cost as usize, b'\n');
+    text.zero_rest(ROOM);
+    text.at
 }
 
 // The text of a refusal: its listed number, and the line.
@@ -96,9 +77,10 @@ pub fn print_refused(number: u8, line: usize, out: &mut [u8]) -> usize
     if out.len() < ROOM {
         return 0;
     }
-    let head = put::word(b"REFUSED ", out, 0);
-    let second = put::field(number as usize, b' ', out, head);
-    let size = put::field(line, b'\n', out, second);
-    put::zero_rest(out, size, ROOM);
-    size
+    let mut text = Out { bytes: out, at: 0 };
+    text.word(b"REFUSED ");
+    text.field(number as usize, b' ');
+    text.field(line, b'\n');
+    text.zero_rest(ROOM);
+    text.at
 }

@@ -1,28 +1,25 @@
--- The answer of writing, put together: a short output is refused before anything else and stays as it came; a
--- job with a fault is refused with another number, and the output is zeroed; a job without one is put at the
--- front of the output, with zeros behind it, and has room there (form's `written_fits`). Assumes nothing.
---     short_refused     9
+-- The answer of writing, put together, where the output is long enough: a job with a fault is refused with another
+-- number than 9, and the output is zeroed; a job without one is put at the front of the output, with zeros behind
+-- it, and has room there (form's `written_fits`). Assumes nothing.
 --     job_refused       one of the listed checks
 --     job_written       the text
-use mathlib.Core.Path.{◌≡◌, refl, sym, ◌∙◌}
+use mathlib.Core.Path.{◌≡◌, sym, ◌∙◌}
 use mathlib.Core.List.{List}
 use Prim.Native.Nat.{ℕ, ◌-◌, ◌≤◌, ◌<◌}
 use native.Mathlib.Omega.{arith}
 use lib.ListN.{length, replicate}
 use Rattle.std.proofs.Common.{Result, Ok, Err}
-use Rattle.hall.specs.declared.Fault.TheVariants.{ShortTable}
 use Rattle.hall.specs.declared.Refusal.{Refusal}
 use Rattle.hall.specs.Limits.{text_room}
 use Rattle.hall.specs.Job.{Numbers}
-use Rattle.hall.specs.Numbers.{number_of}
-use Rattle.hall.specs.Said.{accepted, refused, said_refusal, Judged}
+use Rattle.hall.specs.Said.{accepted, said_refusal, Judged}
 use Rattle.hall.specs.Questions.{checks_question}
-use Rattle.hall.specs.Left.{filled}
+use Rattle.hall.specs.Left.{filled, zeroed}
 use Rattle.hall.proofs.Compose.{refused_first, sound_none}
-use Rattle.hall.proofs.Places.{asked_here, asked_later, asked_clear}
-use Rattle.hall.proofs.Left.{filled_none, left_zeroed}
+use Rattle.hall.proofs.Places.{asked_later, asked_clear}
+use Rattle.hall.proofs.Left.{left_zeroed}
 use Rattle.put.specs.Putting.{overwritten, Put}
-use Rattle.put.proofs.Putting.{put_none, put_closed}
+use Rattle.put.proofs.Putting.{put_closed}
 use Rattle.form.specs.Jobs.{text_of}
 use Rattle.form.proofs.WholeJobs.{written_fits}
 use Rattle.writer.specs.Writing.{Writing}
@@ -35,21 +32,17 @@ unfolding filled
 fills {text} {out} fits room = put_closed text out text_room fits room
 
 module _ (j : Numbers) (out : List ℕ) where
-  pub short_refused : length out < text_room → Writing j out out (refused (number_of ShortTable) 0)
-  short_refused short = record { first = asked_here short; output_left = refl }
-
   module _ (room : text_room ≤ length out) (c : Result Unit Refusal) (judged : Judged (checks_question j) c) where
     long : ¬ (length out < text_room)
     long h = omega arith
 
     pub job_refused : {r : Refusal} {out' : List ℕ} → c ≡ Err r →
-        out' ≡ overwritten 0 (replicate (text_room - 0) 0) out → Writing j out out' (said_refusal r)
+        out' ≡ zeroed text_room out → Writing j out out' (said_refusal r)
     job_refused told zeros =
         let first = refused_first (checks_question j) told judged in
-        let blank = (fills (omega arith) room (put_none out 0) zeros).0 in
         record {
           first = asked_later long first;
-          output_left = blank ∙ filled_none text_room out room ∙ sym (left_zeroed (omega arith) first text_room out);
+          output_left = zeros ∙ sym (left_zeroed (omega arith) first text_room out);
         }
 
     pub job_written : {out₁ out₂ : List ℕ} {r : ℕ} → c ≡ Ok tt →

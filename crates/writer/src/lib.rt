@@ -11,114 +11,83 @@
 #![tactic(auto)]
 
 ghost use Rattle.hall.specs.Job.{job_in};
-ghost use Rattle.put.specs.Digits.{field};
-ghost use Rattle.put.specs.Putting.{Put};
+ghost use Rattle.put.specs.Putting.{Puts};
 ghost use Rattle.form.specs.Lines.{count_line, entry_lines};
 ghost use Rattle.form.specs.Contents.{written};
 ghost use Rattle.form.specs.Jobs.{pairs, singles, closed_contents, dwell_contents, text_of};
 ghost use Rattle.writer.specs.Writing.{said_written, Writing};
 
+use hall::zero::fill_first;
 use hall::{Fault, Job, JobNumbers, Refusal};
 use network::checks::check_job;
+use put::Out;
 
 // ---- lines
 
 // The line of a section: its word and its count.
-fn put_count(word: &[u8], count: usize, out: &mut [u8], at: usize) -> usize
-    ensures { Put out.old at (count_line word.now count) out.new result }
+fn put_count(word: &[u8], count: usize, text: &mut Out)
+    ensures { Puts text.old (count_line word.now count) text.new }
 {
-    let behind = put::word(word, out, at);
-    let digits = put::byte(b' ', out, behind);
-    put::field(count, b'\n', out, digits)
-}
-
-// A number of a table, and the byte behind it.
-fn put_number(n: u16, after: u8, out: &mut [u8], at: usize) -> usize
-    ensures { Put out.old at (field n after) out.new result }
-{
-    put::field(n as usize, after, out, at)
+    text.word(word);
+    text.byte(b' ');
+    text.field(count, b'\n');
 }
 
 // Lines of two numbers: lanes and moves.
-fn put_pairs(numbers: &[u16], out: &mut [u8], at: usize) -> usize
-    ensures { Put
-        out.old at
-        (entry_lines (pairs numbers.now))
-        out.new result }
+fn put_pairs(numbers: &[u16], text: &mut Out)
+    ensures { Puts text.old (entry_lines (pairs numbers.now)) text.new }
 {
-    let count = numbers.len() / 2;
-    let mut next = at;
-    let mut i: usize = 0;
-    while i < count {
-        let first = numbers[2 * i];
-        let second = numbers[2 * i + 1];
-        let behind = put_number(first, b' ', out, next);
-        next = put_number(second, b'\n', out, behind);
-        i += 1;
+    for pair in numbers.chunks_exact(2) {
+        text.field(usize::from(pair[0]), b' ');
+        text.field(usize::from(pair[1]), b'\n');
     }
-    next
 }
 
 // Lines of one number: closed nodes and the order.
-fn put_singles(numbers: &[u16], out: &mut [u8], at: usize) -> usize
-    ensures { Put
-        out.old at
-        (entry_lines (singles numbers.now))
-        out.new result }
+fn put_singles(numbers: &[u16], text: &mut Out)
+    ensures { Puts text.old (entry_lines (singles numbers.now)) text.new }
 {
-    let count = numbers.len();
-    let mut next = at;
-    let mut i: usize = 0;
-    while i < count {
-        let number = numbers[i];
-        next = put_number(number, b'\n', out, next);
-        i += 1;
+    for number in numbers {
+        text.field(usize::from(*number), b'\n');
     }
-    next
 }
 
 // The section of the closed nodes, or nothing where none is closed.
-fn put_closed_nodes(closed: &[u16], out: &mut [u8], at: usize) -> usize
-    ensures { Put
-        out.old at
-        (written (closed_contents closed.now))
-        out.new result }
+fn put_closed_nodes(closed: &[u16], text: &mut Out)
+    ensures { Puts text.old (written (closed_contents closed.now)) text.new }
 {
     let count = closed.len();
     if count == 0 {
-        return at;
+        return;
     }
-    let first_closed = put_count(b"CLOSED", count, out, at);
-    put_singles(closed, out, first_closed)
+    put_count(b"CLOSED", count, text);
+    put_singles(closed, text);
 }
 
 // The line of the dwell, or nothing where it is 0.
-fn put_dwell(dwell: usize, out: &mut [u8], at: usize) -> usize
-    ensures { Put
-        out.old at
-        (written (dwell_contents dwell))
-        out.new result }
+fn put_dwell(dwell: usize, text: &mut Out)
+    ensures { Puts text.old (written (dwell_contents dwell)) text.new }
 {
     if dwell == 0 {
-        return at;
+        return;
     }
-    put_count(b"DWELL", dwell, out, at)
+    put_count(b"DWELL", dwell, text);
 }
 
-// The sections in their order, at the front of the output.
-fn put_job(job: &JobNumbers, out: &mut [u8]) -> usize
-    ensures { Put out.old 0 (text_of (job_in job.now)) out.new result }
+// The sections in their order.
+fn put_job(job: &JobNumbers, text: &mut Out)
+    ensures { Puts text.old (text_of (job_in job.now)) text.new }
 {
     let network = &job.network;
-    let lanes_line = put_count(b"NODES", network.nodes, out, 0);
-    let first_lane = put_count(b"LANES", network.lanes.len() / 2, out, lanes_line);
-    let closed_line = put_pairs(network.lanes, out, first_lane);
-    let carriers_line = put_closed_nodes(network.closed, out, closed_line);
-    let first_carrier = put_count(b"CARRIERS", job.moves.len() / 2, out, carriers_line);
-    let order_line = put_pairs(job.moves, out, first_carrier);
-    let first_place = put_count(b"ORDER", job.order.len(), out, order_line);
-    let dwell_line = put_singles(job.order, out, first_place);
-    put_dwell(job.dwell, out, dwell_line)
+    put_count(b"NODES", network.nodes, text);
+    put_count(b"LANES", network.lanes.len() / 2, text);
+    put_pairs(network.lanes, text);
+    put_closed_nodes(network.closed, text);
+    put_count(b"CARRIERS", job.moves.len() / 2, text);
+    put_pairs(job.moves, text);
+    put_count(b"ORDER", job.order.len(), text);
+    put_singles(job.order, text);
+    put_dwell(job.dwell, text);
 }
 
 // ---- the question
@@ -134,10 +103,11 @@ pub fn write_numbers(job: &JobNumbers, out: &mut [u8]) -> Result<usize, Refusal>
         return Err(Refusal::new(Fault::ShortTable, 0));
     }
     if let Err(refusal) = check_job(job) {
-        put::zero_rest(out, 0, Job::TEXT_BYTES);
+        fill_first(out, Job::TEXT_BYTES, 0);
         return Err(refusal);
     }
-    let size = put_job(job, out);
-    put::zero_rest(out, size, Job::TEXT_BYTES);
-    Ok(size)
+    let mut text = Out { bytes: out, at: 0 };
+    put_job(job, &mut text);
+    text.zero_rest(Job::TEXT_BYTES);
+    Ok(text.at)
 }

@@ -1,5 +1,5 @@
 -- The sections one behind the other, each its line and its entries, are the text of the job.
-use Rattle.put.proofs.Putting.{put_none, put_then}
+use Rattle.put.proofs.Putting.{puts_none, puts_then}
 use Rattle.form.specs.Words.{NODES, LANES, CARRIERS, ORDER}
 use Rattle.writer.proofs.Lines.{job_parts}
 use Rattle.writer.proofs.put_job.Goals as goal
@@ -7,11 +7,11 @@ use Rattle.writer.proofs.put_job.Goals as goal
 pub returns : goal.returns
 unfolding NODES LANES CARRIERS ORDER
 returns c =
-    let first = put_then c.put_count-lanes_line.ensures (put_none _ _) in
-    let second = put_then c.put_count-first_lane.ensures c.put_pairs-closed_line.ensures in
-    let third = put_then c.put_count-first_carrier.ensures c.put_pairs-order_line.ensures in
-    let fourth = put_then c.put_count-first_place.ensures c.put_singles-dwell_line.ensures in
+    let first = puts_then c.put_count.ensures (puts_none _) in
+    let second = puts_then c.put_count-2.ensures c.put_pairs.ensures in
+    let third = puts_then c.put_count-3.ensures c.put_pairs-2.ensures in
+    let fourth = puts_then c.put_count-4.ensures c.put_singles.ensures in
     rw job_parts
-    (put_then first
-    (put_then second
-    (put_then c.put_closed_nodes-carriers_line.ensures (put_then third (put_then fourth c.put_dwell.ensures)))))
+    (puts_then first
+    (puts_then second
+    (puts_then c.put_closed_nodes.ensures (puts_then third (puts_then fourth c.put_dwell.ensures)))))

@@ -1,20 +1,24 @@
--- At the start no pair is put; each turn puts the two fields of one more; and at the end i pairs are all
--- of them.
-use Rattle.std.proofs.Common.{arith}
-use Rattle.put.proofs.Putting.{put_none, put_then}
-use Rattle.writer.proofs.Lines.{no_pairs, next_pair, all_pairs}
+-- At the start no pair is put; each turn puts the two fields of one more; and what is left at the end is no pair.
+use Rattle.std.proofs.Common.{arith, ◌∙◌}
+use Rattle.put.proofs.Putting.{puts_then}
+use Rattle.writer.proofs.Lines.{up_to_none, up_to_more, up_to_all, first_pair, no_pair}
 use Rattle.writer.proofs.put_pairs.Goals as goal
 
-pub loop-i-init : goal.loop-i-init
-loop-i-init c = (omega arith, rw no_pairs (put_none _ _))
+pub loop-pair-init : goal.loop-pair-init
+loop-pair-init c =
+    let begin = c.chunks_exact-pair-items.ensures in
+    rw c.into_iter-pair-iterator.ensures.into_iter_gives (begin.size, rw begin.rest (up_to_none _ _))
 
-pub loop-i-preserved : goal.loop-i-preserved
-loop-i-preserved c =
-    let loop = c.loop-i in
-    let both = put_then c.put_number-behind.ensures c.put_number-next.ensures in
-    (omega arith, rw (next_pair c.args.numbers.now loop.i (omega arith)) (put_then loop.invariant.1 both))
+pub loop-pair-preserved : goal.loop-pair-preserved
+loop-pair-preserved c =
+    let kept = c.loop-pair.invariant in
+    let next = c.in-Some.ensures.steps in
+    let first = rw c.from.ensures at c.field.ensures in
+    let second = rw c.from-in-loop-pair.ensures at c.field-in-loop-pair.ensures in
+    let pair = first_pair _ c.in-Some.pair.now _ next.1.0 (next.1.1 ∙ kept.0) in
+    (next.0 ∙ kept.0, up_to_more kept.1 (puts_then first second) pair)
 
 pub returns : goal.returns
 returns c =
-    let loop = c.loop-i in
-    rw (← all_pairs c.args.numbers.now loop.i (omega arith)) loop.invariant.1
+    let next = c.in-None.ensures.steps in
+    up_to_all c.loop-pair.invariant.1 (no_pair _ (omega arith))

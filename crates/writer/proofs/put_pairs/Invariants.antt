@@ -1,14 +1,11 @@
--- The invariant of `put_pairs`: the lines of the first i pairs are put from the place on, and the next
--- goes past them. The measure is how many pairs are left.
-use Rattle.std.proofs.Common.{◌*◌, ◌-◌, ◌≤◌, take}
-use Rattle.put.specs.Putting.{Put}
+-- The invariant of `put_pairs`: the lines of the pairs passed are put, and those of the rest are missing.
+use Rattle.std.proofs.Common.{◌≡◌}
 use Rattle.form.specs.Lines.{entry_lines}
 use Rattle.form.specs.Jobs.{pairs}
+use Rattle.writer.proofs.Lines.{PutUpTo}
 use Rattle.writer.proofs.put_pairs.Given as goal
 
-abbrev pub invariant-loop-i : goal.invariant-loop-i
-invariant-loop-i l =
-    (l.i ≤ l.count) × Put l.initial.out l.fn.at (entry_lines (pairs (take (2 * l.i) l.numbers))) l.out l.next
-
-abbrev pub decreases-loop-i : goal.decreases-loop-i
-decreases-loop-i l = l.count - l.i
+abbrev pub invariant-loop-pair : goal.invariant-loop-pair
+invariant-loop-pair l =
+    (l.pair-iterator.size ≡ 2)
+    × PutUpTo l.initial.text (entry_lines (pairs l.numbers)) (entry_lines (pairs l.pair-iterator.rest.now)) l.text

@@ -1,7 +1,7 @@
 -- A word, a field, the carriers' lines, a word and a field, one behind the other, at the front of the
 -- bytes, and zeros behind them; the text fits into 2,048 bytes.
-use Rattle.std.proofs.Common.{arith}
-use Rattle.put.proofs.Putting.{put_then}
+use Rattle.std.proofs.Common.{rules, arith, ◌∙◌}
+use Rattle.put.proofs.Putting.{puts_then}
 use Rattle.report.specs.Printing.{Askable, PlanPrinting}
 use Rattle.report.proofs.Lines.{plan_parts, plan_fits}
 use Rattle.report.proofs.Printing.{put_prints}
@@ -12,10 +12,11 @@ returns c =
     let a = c.args in
     let ask : Askable a.carriers a.distances.now a.ticks.now a.out.now =
     record { few = omega arith; distance_each = omega arith; tick_each = omega arith; room = omega arith } in
-    let last = put_then c.word-sum.ensures c.field-size.ensures in
-    let tail = put_then c.put_carriers-tail.ensures last in
-    let puts = put_then c.word-head.ensures (put_then c.field-lines.ensures tail) in
+    let last = puts_then c.word-2.ensures c.field-2.ensures in
+    let tail = puts_then c.put_carriers.ensures last in
+    let puts = puts_then c.word.ensures (puts_then c.field.ensures tail) in
     let text = rw (← plan_parts _ _ _ _) at puts in
     let fits = plan_fits a.carriers _ _ a.cost ask.few
     (λ i. (c.type_inv.ticks i).fits) (λ i. (c.type_inv.distances i).fits) c.ranges.cost.fits in
-    PlanPrinting.whole ask (put_prints fits ask.room text c.zero_rest.ensures)
+    rw c.zero_rest.ensures.same_place
+    (PlanPrinting.whole ask (put_prints fits ask.room text.put (search rules ∙ c.zero_rest.ensures.zeros)))

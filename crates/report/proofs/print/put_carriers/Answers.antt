@@ -1,12 +1,10 @@
 -- At the start no line is put, and each turn puts the line of one more carrier.
-use Rattle.std.proofs.Common.{arith}
-use Rattle.put.proofs.Putting.{put_none, put_then}
+use Rattle.put.proofs.Putting.{puts_none, puts_then}
 use Rattle.report.proofs.Lines.{no_lines, next_line}
 use Rattle.report.proofs.print.put_carriers.Goals as goal
 
-pub loop-i-init : goal.loop-i-init
-loop-i-init c = (omega arith, rw no_lines (put_none _ _))
+pub loop-carrier-init : goal.loop-carrier-init
+loop-carrier-init c = rw no_lines (puts_none _)
 
-pub loop-i-preserved : goal.loop-i-preserved
-loop-i-preserved c =
-    (omega arith, rw next_line (put_then c.loop-i.invariant.1 c.put_carrier-next.ensures))
+pub loop-carrier-preserved : goal.loop-carrier-preserved
+loop-carrier-preserved c = rw next_line (puts_then c.loop-carrier.invariant c.put_carrier.ensures)

@@ -1,5 +1,5 @@
 -- `number` calls itself at the number's tenth, so the measure is the number.
-use Rattle.put.proofs.+number.Given as goal
+use Rattle.put.proofs.Out.+number.Given as goal
 
 abbrev pub decreases-number : goal.decreases-number
 decreases-number l = l.n
