@@ -40,8 +40,7 @@ pub fn read_lent(
         fields.old fields.new
         result }
 {
-    let n = within(count);
-    let answer = read_job(text, lanes, closed, &mut records[..n], order);
+    let answer = read_job(text, lanes, closed, &mut records[..within(count)], order);
     told(records, fields);
     answer
 }
@@ -67,8 +66,7 @@ pub fn plan_lent(
         fields.old fields.new
         result }
 {
-    let n = within(count);
-    let answer = plan(network, &mut records[..n], order, dwell, table);
+    let answer = plan(network, &mut records[..within(count)], order, dwell, table);
     told(records, fields);
     answer
 }
@@ -94,8 +92,14 @@ pub fn house_lent(
         records
         result }
 {
-    let n = within(count);
-    house(network, &records[..n], order, dwell, carrier, path)
+    house(
+        network,
+        &records[..within(count)],
+        order,
+        dwell,
+        carrier,
+        path,
+    )
 }
 
 // `jobs::judge` with the first `count` records lent.
@@ -119,8 +123,14 @@ pub fn judge_lent(
         records
         result }
 {
-    let n = within(count);
-    judge(network, &records[..n], order, dwell, carrier, list)
+    judge(
+        network,
+        &records[..within(count)],
+        order,
+        dwell,
+        carrier,
+        list,
+    )
 }
 
 // `jobs::write_job` with the first `count` records lent.
@@ -142,6 +152,5 @@ pub fn write_lent(
         records
         result }
 {
-    let n = within(count);
-    write_job(network, &records[..n], order, dwell, out)
+    write_job(network, &records[..within(count)], order, dwell, out)
 }

@@ -2,4 +2,4 @@
 use Rattle.try_records.proofs.house_lent.Goals as goal
 
 pub returns : goal.returns
-returns c = rw c.within-n.ensures at c.house.ensures
+returns c = rw c.within.ensures at c.house.ensures
