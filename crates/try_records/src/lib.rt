@@ -40,7 +40,8 @@ pub fn read_lent(
         fields.old fields.new
         result }
 {
-    let answer = read_job(text, lanes, closed, &mut records[..within(count)], order);
+    let front = &mut records[..within(count)];
+    let answer = read_job(text, lanes, closed, front, order);
     told(records, fields);
     answer
 }
@@ -66,7 +67,8 @@ pub fn plan_lent(
         fields.old fields.new
         result }
 {
-    let answer = plan(network, &mut records[..within(count)], order, dwell, table);
+    let front = &mut records[..within(count)];
+    let answer = plan(network, front, order, dwell, table);
     told(records, fields);
     answer
 }
@@ -92,14 +94,8 @@ pub fn house_lent(
         records
         result }
 {
-    house(
-        network,
-        &records[..within(count)],
-        order,
-        dwell,
-        carrier,
-        path,
-    )
+    let front = &records[..within(count)];
+    house(network, front, order, dwell, carrier, path)
 }
 
 // `jobs::judge` with the first `count` records lent.
@@ -123,14 +119,8 @@ pub fn judge_lent(
         records
         result }
 {
-    judge(
-        network,
-        &records[..within(count)],
-        order,
-        dwell,
-        carrier,
-        list,
-    )
+    let front = &records[..within(count)];
+    judge(network, front, order, dwell, carrier, list)
 }
 
 // `jobs::write_job` with the first `count` records lent.
@@ -152,5 +142,6 @@ pub fn write_lent(
         records
         result }
 {
-    write_job(network, &records[..within(count)], order, dwell, out)
+    let front = &records[..within(count)];
+    write_job(network, front, order, dwell, out)
 }
