@@ -7,19 +7,19 @@
 --     begun_closed    so does marking without the source, where that is closed
 --     Unswept         the row before the first sweep, compared with the row that came
 --     unswept_spread  the rounds leave it, since labels only fell in them
-use mathlib.Core.Path.{◌≡◌, ◌∙◌}
+use mathlib.Core.Path.{◌≡◌, sym, ◌∙◌}
 use mathlib.Core.Logic.{◌≢◌}
-use mathlib.Core.List.{List, ◌++◌}
+use mathlib.Core.List.{List}
 use Prim.Native.Nat.{ℕ, ◌≤◌, ◌<◌}
 use native.Mathlib.Decide.{ℕ_discrete}
 use native.Mathlib.Omega.{arith}
-use lib.ListN.{length, get_or, set, replicate, drop, length-set, length-replicate, get_or-replicate}
+use lib.ListN.{length, get_or, set, replicate, length-set, length-replicate, get_or-replicate}
 use lib.Seq.{get_or-set_same, get_or-set_other}
+use Rattle.std.proofs.lemmas.List.{get_or_past}
 use Rattle.hall.specs.Limits.{no_walk_mark}
 use Rattle.hall.specs.Floor.{here, Network, Closed, Open}
 use Rattle.hall.proofs.FloorTests as tests
 use Rattle.hall.proofs.Test.{dec}
-use Rattle.walk.proofs.WalkMarks.{front_length, front_below, front_beyond}
 use Rattle.walk.specs.Sweep.{unreached_mark, Shut, Labelled, unreached, reached, shut, AllLabelled, OnlyFell}
 
 pub record Begun (N : Network) (source : ℕ) (row₀ row : List ℕ) : Type 0 where
@@ -29,45 +29,23 @@ pub record Begun (N : Network) (source : ℕ) (row₀ row : List ℕ) : Type 0 w
   pub shut : (v : ℕ) → v < N.nodes → Closed N.closed v → get_or row v 0 ≡ no_walk_mark
   pub beyond : (v : ℕ) → N.nodes ≤ v → get_or row v 0 ≡ get_or row₀ v 0
 
-module _ (nodes : ℕ) (row₀ : List ℕ) (wide : nodes ≤ length row₀) where
-  blank : List ℕ
-  blank = replicate nodes unreached_mark ++ drop nodes row₀
-
-  sized : length (replicate nodes unreached_mark) ≡ nodes
-  sized = length-replicate {A = ℕ} nodes unreached_mark
-
-  blank_length : length blank ≡ length row₀
-  unfolding blank
-  blank_length = front_length (replicate nodes unreached_mark) row₀ sized wide
-
-  blank_below : (v : ℕ) → v < nodes → get_or blank v 0 ≡ unreached_mark
-  unfolding blank
-  blank_below v h = front_below (replicate nodes unreached_mark) row₀ sized v h ∙ get_or-replicate nodes v unreached_mark 0 h
-
-  blank_beyond : (v : ℕ) → nodes ≤ v → get_or blank v 0 ≡ get_or row₀ v 0
-  unfolding blank
-  blank_beyond = front_beyond (replicate nodes unreached_mark) row₀ sized
-
--- the row once the closed nodes have their mark
-module _ (N : Network) (row₀ : List ℕ) (wide : N.nodes ≤ length row₀) {blank₀ row : List ℕ} (is_blank : blank₀ ≡ replicate N.nodes unreached_mark ++ drop N.nodes row₀)
-    (shut : Shut N.nodes N.closed blank₀ row) where
+-- the row of one place a node, once the closed nodes have their mark
+module _ (N : Network) (row₀ : List ℕ) (as_long : length row₀ ≡ N.nodes) {row : List ℕ} (shut : Shut N.nodes N.closed (replicate N.nodes unreached_mark) row) where
   pub shut_length : length row ≡ length row₀
-  unfolding blank
-  shut_length = shut.size ∙ (rw is_blank (blank_length N.nodes row₀ wide))
+  shut_length = shut.size ∙ length-replicate {A = ℕ} N.nodes unreached_mark ∙ sym as_long
 
   shut_open : (v : ℕ) → Open N v → get_or row v 0 ≡ unreached_mark
-  unfolding blank
-  shut_open v o = shut.kept v o.not_closed ∙ (rw is_blank (blank_below N.nodes row₀ wide v o.numbered))
+  shut_open v o = shut.kept v o.not_closed ∙ get_or-replicate N.nodes v unreached_mark 0 o.numbered
 
+  -- past the row there is nothing
   shut_beyond : (v : ℕ) → N.nodes ≤ v → get_or row v 0 ≡ get_or row₀ v 0
-  unfolding blank
-  shut_beyond v h = shut.beyond v h ∙ (rw is_blank (blank_beyond N.nodes row₀ wide v h))
+  shut_beyond v h = get_or_past row v 0 (omega (arith, shut_length)) ∙ sym (get_or_past row₀ v 0 (omega arith))
 
   -- the source's place is marked as not reached, so the source is open
   pub begun_open : (source : ℕ) → source < N.nodes → get_or row source 0 ≡ unreached_mark → Begun N source row₀ (set row source 0)
   begun_open source h e = record {
     size = length-set row source 0 ∙ shut_length;
-    source_zero = λ o. get_or-set_same row source 0 0 (rw shut_length (omega arith));
+    source_zero = λ o. get_or-set_same row source 0 0 (omega (arith, shut_length));
     unreached = λ v o n. get_or-set_other row source v 0 0 n ∙ shut_open v o;
     shut = λ v i c. get_or-set_other row source v 0 0 (λ same. other (rw same at c)) ∙ shut.marked v i c;
     beyond = λ v i. get_or-set_other row source v 0 0 (λ same. let z : ⊥ = omega arith in z) ∙ shut_beyond v i;

@@ -1,9 +1,5 @@
 -- The marks that two loops put: that of the closed nodes before the first sweep, and that of the open nodes
--- that no sweep reached after the last. Each goes through a list number by number; the second through the
--- first places of the row, one a node. Assumes nothing.
---     front_length       a row whose first places are exchanged is as long
---     front_below        those places hold what was put there
---     front_beyond       the places past them are as they came
+-- that no sweep reached after the last. Each goes through a list number by number. Assumes nothing.
 --     Shutting           the first k entries of the closed list have been gone through
 --     shutting_none      none
 --     shutting_node      one more, that is a node
@@ -15,31 +11,15 @@
 --     settling_all       all
 use mathlib.Core.Path.{◌≡◌, refl, sym, ◌∙◌}
 use mathlib.Core.Logic.{◌⊎◌, inl, inr, ◌≢◌}
-use mathlib.Core.List.{List, ◌++◌}
-use Prim.Native.Nat.{ℕ, ◌+◌, ◌-◌, ◌≤◌, ◌<◌}
-use native.Mathlib.Decide.{ℕ_discrete, dec_lt}
+use mathlib.Core.List.{List}
+use Prim.Native.Nat.{ℕ, ◌+◌, ◌≤◌, ◌<◌}
+use native.Mathlib.Decide.{ℕ_discrete}
 use native.Mathlib.Omega.{arith}
-use lib.ListN.{length, get_or, set, take, drop, length-set, length-append, length-drop, get_or-append}
-use lib.Seq.{get_or-set_same, get_or-set_other, get_or-append-add, get_or-drop}
-use Rattle.std.proofs.lemmas.List.{get_or-take, length-take-le}
+use lib.ListN.{length, get_or, set, length-set}
+use lib.Seq.{get_or-set_same, get_or-set_other}
 use Rattle.hall.specs.Limits.{no_walk_mark}
 use Rattle.hall.specs.Floor.{Closed}
 use Rattle.walk.specs.Sweep.{unreached_mark, Shut, Settled}
-
--- ---- the first places of a row
-
-module _ (front row : List ℕ) {nodes : ℕ} (sized : length front ≡ nodes) where
-  pub front_length : nodes ≤ length row → length (front ++ drop nodes row) ≡ length row
-  front_length wide = simp (length-append, length-drop) (omega arith)
-
-  pub front_below : (v : ℕ) → v < nodes → get_or (front ++ drop nodes row) v 0 ≡ get_or front v 0
-  front_below v h = get_or-append front (drop nodes row) 0 v (omega arith)
-
-  pub front_beyond : (v : ℕ) → nodes ≤ v → get_or (front ++ drop nodes row) v 0 ≡ get_or row v 0
-  front_beyond v h =
-      let e : length front + (v - nodes) ≡ v = omega arith in
-      let f : nodes + (v - nodes) ≡ v = omega arith in
-      (rw e at (get_or-append-add front (drop nodes row) (v - nodes) 0)) ∙ (rw f at (get_or-drop nodes row (v - nodes) 0))
 
 -- ---- the closed nodes
 
@@ -129,20 +109,5 @@ module _ {row₀ row : List ℕ} {i : ℕ} (s : Settling row₀ row i) (inside :
       kept v n (yes same) = rw same (new ∙ kept_here (rw same at n) came)
       kept v n (no other) = get_or-set_other row i v label 0 other ∙ s.kept v n
 
--- the nodes have the first places of the row
-pub settling_all : {nodes : ℕ} (row : List ℕ) {front : List ℕ} {i : ℕ} → nodes ≤ length row → Settling (take nodes row) front i → length (take nodes row) ≤ i → Settled nodes row (front ++ drop nodes row)
-settling_all {nodes} row {front} {i} wide s all = record {
-  size = front_length front row sized wide;
-  marked = λ v h e. front_below front row sized v h ∙ s.marked v (omega (arith, length-take-le nodes row wide)) (get_or-take nodes row v 0 h ∙ e);
-  kept = λ v n. kept v n (dec_lt v nodes);
-  beyond = front_beyond front row sized;
-}
-  where
-    sized : length front ≡ nodes
-    sized = s.size ∙ length-take-le nodes row wide
-
-    kept : (v : ℕ) → get_or row v 0 ≢ unreached_mark → Dec (v < nodes) → get_or (front ++ drop nodes row) v 0 ≡ get_or row v 0
-    kept v n (yes h) =
-        let same = get_or-take nodes row v 0 h in
-        front_below front row sized v h ∙ s.kept v (λ e. n (sym same ∙ e)) ∙ same
-    kept v n (no h) = front_beyond front row sized v (omega arith)
+pub settling_all : {row₀ row : List ℕ} {i nodes : ℕ} → Settling row₀ row i → i ≡ nodes → Settled nodes row₀ row
+settling_all s all = record { size = s.size; marked = λ v h. s.marked v (omega arith); kept = s.kept; beyond = λ v h. s.beyond v (omega arith) }

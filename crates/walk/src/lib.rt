@@ -47,24 +47,22 @@ const UNREACHED: u16 = 65534;
 const ROUNDS: usize = 5;
 
 // The places of the closed nodes get the mark for "no walk". An entry that is no node is passed over.
-fn shut(nodes: usize, closed: &[u16], row: &mut [u16])
-    requires { nodes ≤ length row.old }
-    ensures { Shut nodes closed.now row.old row.new }
+fn shut(closed: &[u16], row: &mut [u16])
+    ensures { Shut (length row.old) closed.now row.old row.new }
 {
     for &node in closed {
         let place = node as usize;
-        if place < nodes {
+        if place < row.len() {
             row[place] = Job::NO_WALK;
         }
     }
 }
 
 // The open nodes that no sweep has reached get the mark for "no walk" too.
-fn settle(nodes: usize, row: &mut [u16])
-    requires { nodes ≤ length row.old }
-    ensures { Settled nodes row.old row.new }
+fn settle(row: &mut [u16])
+    ensures { Settled (length row.old) row.old row.new }
 {
-    for label in &mut row[..nodes] {
+    for label in row.iter_mut() {
         if *label == UNREACHED {
             *label = Job::NO_WALK;
         }
@@ -85,15 +83,14 @@ fn greatest(numbers: &[u16]) -> u16
 // One look at a lane: where both ends are nodes, and their labels are two or more apart, the higher label
 // falls to one more than the lower, if it is not that of a closed node. The answer is whether it fell. In a
 // clean list the ends are not tested. A closed node lets no label fall either: none is two above its mark.
-fn look(nodes: usize, clean: bool, a: u16, b: u16, row: &mut [u16]) -> bool
-    requires { (nodes ≤ length row.old)
-        × (clean ≡ true → a < nodes)
-        × (clean ≡ true → b < nodes) }
-    ensures { Looked nodes a b row.old row.new result }
+fn look(clean: bool, a: u16, b: u16, row: &mut [u16]) -> bool
+    requires { (clean ≡ true → a < length row.old)
+        × (clean ≡ true → b < length row.old) }
+    ensures { Looked (length row.old) a b row.old row.new result }
 {
     let first = a as usize;
     let second = b as usize;
-    if !clean && (first >= nodes || second >= nodes) {
+    if !clean && (first >= row.len() || second >= row.len()) {
         return false;
     }
     let x = row[first];
@@ -119,17 +116,10 @@ fn look(nodes: usize, clean: bool, a: u16, b: u16, row: &mut [u16]) -> bool
 // first `todo`, from the last of them to the first. The answer is how many lanes it had left out or looked
 // at before the one at which a label fell last, 0 if none fell: these are the lanes of the next sweep,
 // which goes the other way.
-fn sweep(
-    nodes: usize,
-    clean: bool,
-    lanes: &[u16],
-    back: bool,
-    todo: usize,
-    row: &mut [u16],
-) -> usize
-    requires { Clean nodes lanes.now clean
-        × Sweepable nodes lanes.now back todo row.old }
-    ensures { LanesSwept nodes lanes.now back
+fn sweep(clean: bool, lanes: &[u16], back: bool, todo: usize, row: &mut [u16]) -> usize
+    requires { Clean (length row.old) lanes.now clean
+        × Sweepable (length row.old) lanes.now back todo row.old }
+    ensures { LanesSwept (length row.old) lanes.now back
         row.old row.new result }
 {
     let count = lanes.len() / 2;
@@ -139,7 +129,7 @@ fn sweep(
         let k = if back { rest } else { done };
         let a = lanes[2 * k];
         let b = lanes[2 * k + 1];
-        if look(nodes, clean, a, b, row) {
+        if look(clean, a, b, row) {
             next = done;
         }
     }
@@ -148,10 +138,9 @@ fn sweep(
 
 // One round: a look at each lane whose two labels have this sum. The answer is how many labels fell. The list
 // is clean.
-fn spread(nodes: usize, lanes: &[u16], sum: usize, row: &mut [u16]) -> usize
-    requires { Clean nodes lanes.now true
-        × (nodes ≤ length row.old) }
-    ensures { OnlyFell nodes lanes.now row.old row.new
+fn spread(lanes: &[u16], sum: usize, row: &mut [u16]) -> usize
+    requires { Clean (length row.old) lanes.now true }
+    ensures { OnlyFell (length row.old) lanes.now row.old row.new
         × (result ≤ lanes_in lanes.now) }
 {
     let mut fell: usize = 0;
@@ -160,7 +149,7 @@ fn spread(nodes: usize, lanes: &[u16], sum: usize, row: &mut [u16]) -> usize
         let b = lanes[2 * k + 1];
         let x = row[a as usize] as usize;
         let y = row[b as usize] as usize;
-        if x + y == sum && look(nodes, true, a, b, row) {
+        if x + y == sum && look(true, a, b, row) {
             fell += 1;
         }
     }
@@ -171,17 +160,16 @@ fn spread(nodes: usize, lanes: &[u16], sum: usize, row: &mut [u16]) -> usize
 // node, as a line and a grid have: there sweeps alone take less time. Nor is there another after one in
 // which at most twice as many labels fell as in the one before: few nodes are then reached at a time, as in
 // a grid with diagonals, and a round would look at all lanes for them.
-fn spread_near(nodes: usize, clean: bool, lanes: &[u16], row: &mut [u16])
-    requires { Clean nodes lanes.now clean
-        × (nodes ≤ length row.old) }
-    ensures { OnlyFell nodes lanes.now row.old row.new }
+fn spread_near(clean: bool, lanes: &[u16], row: &mut [u16])
+    requires { Clean (length row.old) lanes.now clean }
+    ensures { OnlyFell (length row.old) lanes.now row.old row.new }
 {
-    if !clean || lanes.len() / 6 < nodes {
+    if !clean || lanes.len() / 6 < row.len() {
         return;
     }
     let mut before: usize = 0;
     for far in 0..ROUNDS {
-        let fell = spread(nodes, lanes, UNREACHED as usize + far, row);
+        let fell = spread(lanes, UNREACHED as usize + far, row);
         if fell <= 2 * before {
             return;
         }
@@ -189,34 +177,35 @@ fn spread_near(nodes: usize, clean: bool, lanes: &[u16], row: &mut [u16])
     }
 }
 
-// The distance walk itself: rounds in a dense hall, then sweeps, there and back by turns, until the next one
-// has no lane. The answer is how many sweeps there were; it stands in the promise, and no caller needs it.
+// The distance walk itself, in a row with one place a node: rounds in a dense hall, then sweeps, there and
+// back by turns, until the next one has no lane. The answer is how many sweeps there were; it stands in the
+// promise, and no caller needs it.
 fn reach(network: &Network, source: u16, row: &mut [u16]) -> usize
-    requires { RowServed (network_in network.now) source row.old }
+    requires { RowServed (network_in network.now) source row.old
+        × (length row.old ≡ network.now.nodes) }
     ensures { RowFilled (network_in network.now) source
         row.old row.new
         × (result ≤ network.now.nodes) }
 {
-    let nodes = network.nodes;
     let lanes = network.lanes;
     let place = source as usize;
     let top = greatest(lanes) as usize;
-    let clean = top < nodes;
-    row[..nodes].fill(UNREACHED);
-    shut(nodes, network.closed, row);
+    let clean = top < network.nodes;
+    row.fill(UNREACHED);
+    shut(network.closed, row);
     if row[place] == UNREACHED {
         row[place] = 0;
     }
-    spread_near(nodes, clean, lanes, row);
+    spread_near(clean, lanes, row);
     let mut sweeps: usize = 0;
     let mut back = false;
     let mut todo = lanes.len() / 2;
     while todo > 0 {
-        todo = sweep(nodes, clean, lanes, back, todo, row);
+        todo = sweep(clean, lanes, back, todo, row);
         back = !back;
         sweeps += 1;
     }
-    settle(nodes, row);
+    settle(row);
     sweeps
 }
 
@@ -226,11 +215,9 @@ pub fn distances(network: &Network, source: u16, row: &mut [u16]) -> bool
         row.old row.new result }
 {
     let nodes = network.nodes;
-    let first = source as usize;
-    let places = row.len();
-    if nodes > Job::NODES || first >= nodes || nodes > places {
+    if nodes > Job::NODES || source as usize >= nodes || nodes > row.len() {
         return false;
     }
-    reach(network, source, row);
+    reach(network, source, &mut row[..nodes]);
     true
 }

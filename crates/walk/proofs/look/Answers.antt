@@ -1,20 +1,20 @@
 -- Both ends are nodes, since the list is clean or by the tests, labels that are less than two apart are
 -- near, and a label that is not the mark of a closed node is below it.
-use Rattle.std.proofs.Common.{◌<◌, refl, arith, inl, inr}
+use Rattle.std.proofs.Common.{◌<◌, length, refl, arith, inl, inr}
 use Rattle.walk.specs.Sweep.{kept, second_fell, first_fell}
 use Rattle.walk.proofs.look.Goals as goal
-use Rattle.walk.proofs.look.Goals.{Joined-else-not-clean, else-not-clean-via-then-not-clean+else-second-nodes, else-not-clean-via-else-not-clean}
+use Rattle.walk.proofs.look.Goals.{Joined-else-not-clean, else-not-clean-via-then-not-clean+else-second-row, else-not-clean-via-else-not-clean}
 
 -- behind the tests both ends are nodes
-both : (c : Joined-else-not-clean) → (c.args.a < c.args.nodes) × (c.args.b < c.args.nodes)
+both : (c : Joined-else-not-clean) → (c.args.a < length c.args.row.now) × (c.args.b < length c.args.row.now)
 both c = elim c.else-not-clean.branch [
-  | else-not-clean-via-then-not-clean+else-second-nodes w ↦ w.if-second-nodes.false
-  | else-not-clean-via-else-not-clean w ↦ (c.requires.1 w.if-not-clean.false, c.requires.2 w.if-not-clean.false)
+  | else-not-clean-via-then-not-clean+else-second-row w ↦ w.if-second-row.false
+  | else-not-clean-via-else-not-clean w ↦ (c.requires.0 w.if-not-clean.false, c.requires.1 w.if-not-clean.false)
 ]
 
-pub returns-then-second-nodes : goal.returns-then-second-nodes
-returns-then-second-nodes c =
-    kept (λ h i x y. absurd (let z : ⊥ = elim c.if-second-nodes.either [ inl e ↦ omega arith | inr e ↦ omega (arith, e.1) ] in z)) refl
+pub returns-then-second-row : goal.returns-then-second-row
+returns-then-second-row c =
+    kept (λ h i x y. absurd (let z : ⊥ = elim c.if-second-row.either [ inl e ↦ omega arith | inr e ↦ omega (arith, e.1) ] in z)) refl
 
 pub returns-then-abs_diff-lt2 : goal.returns-then-abs_diff-lt2
 returns-then-abs_diff-lt2 c = kept (λ h i below-a below-b. record { second = omega (arith, c.abs_diff.ensures); first = omega (arith, c.abs_diff.ensures) }) refl

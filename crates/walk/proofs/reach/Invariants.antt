@@ -13,4 +13,4 @@ invariant-loop-todo l =
     × Unswept (network_in l.network) l.source l.fn.row l.initial.row
 
 abbrev pub decreases-loop-todo : goal.decreases-loop-todo
-decreases-loop-todo l = l.nodes - l.sweeps
+decreases-loop-todo l = l.network.nodes - l.sweeps

@@ -3,4 +3,4 @@ use Rattle.walk.proofs.WalkMarks.{Settling}
 use Rattle.walk.proofs.settle.Given as goal
 
 abbrev pub invariant-loop-label : goal.invariant-loop-label
-invariant-loop-label l = Settling l.initial.label-items l.label-items l.label-index
+invariant-loop-label l = Settling l.initial.row l.row l.label-index

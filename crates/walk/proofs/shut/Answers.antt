@@ -3,17 +3,17 @@
 use Rattle.std.proofs.Common.{arith}
 use Rattle.walk.proofs.WalkMarks.{shutting_none, shutting_node, shutting_other, shutting_all}
 use Rattle.walk.proofs.shut.Goals as goal
-use Rattle.walk.proofs.shut.Goals.{then-place-nodes, else-place-nodes}
+use Rattle.walk.proofs.shut.Goals.{then-place-row, else-place-row}
 
 pub loop-node-init : goal.loop-node-init
-loop-node-init c = shutting_none c.args.nodes c.args.closed.now c.args.row.now
+loop-node-init c = shutting_none _ c.args.closed.now c.args.row.now
 
 pub loop-node-preserved : goal.loop-node-preserved
 loop-node-preserved c =
     let s = c.loop-node.invariant in
-    elim c.if-place-nodes.branch [
-      | then-place-nodes w ↦ rw w.row-is (shutting_node s c.requires (omega arith) w.if-place-nodes.true)
-      | else-place-nodes w ↦ rw w.row-is (shutting_other s w.if-place-nodes.false)
+    elim c.if-place-row.branch [
+      | then-place-row w ↦ rw w.row-is (shutting_node s (omega arith) (omega arith) (omega arith))
+      | else-place-row w ↦ rw w.row-is (shutting_other s (omega arith))
     ]
 
 pub returns : goal.returns

@@ -11,11 +11,12 @@ loop-k-init c = (only_fell_none, omega arith)
 pub loop-k-preserved : goal.loop-k-preserved
 loop-k-preserved c =
     let loop = c.loop-k in
-    let wide : c.args.nodes ≤ length loop.row = omega arith in
+    let long = loop.auto.row in
+    let wide : length c.args.row.now ≤ length loop.row = omega arith in
     elim c.if-x-y.branch [
-      | then-x-y+then-look w ↦ (rw w.row-is (only_fell_then loop.invariant.0 (only_fell_look wide loop.k (omega arith) w.look.ensures)), omega arith)
+      | then-x-y+then-look w ↦ (rw w.row-is (only_fell_then loop.invariant.0 (only_fell_look wide loop.k (omega arith) (rw long at w.look.ensures))), omega arith)
       | else-x-y w ↦ elim w.else-x-y.branch [
-        | else-x-y-via-then-x-y+else-look v ↦ (rw (w.row-is, v.row-is) (only_fell_then loop.invariant.0 (only_fell_look wide loop.k (omega arith) v.look.ensures)), omega arith)
+        | else-x-y-via-then-x-y+else-look v ↦ (rw (w.row-is, v.row-is) (only_fell_then loop.invariant.0 (only_fell_look wide loop.k (omega arith) (rw long at v.look.ensures))), omega arith)
         | else-x-y-via-else-x-y v ↦ (rw (w.row-is, v.row-is) loop.invariant.0, omega arith)
       ]
     ]

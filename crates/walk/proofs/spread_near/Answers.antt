@@ -10,10 +10,10 @@ pub loop-far-init : goal.loop-far-init
 loop-far-init c = (only_fell_none, omega arith)
 
 pub returns-then-fell-before : goal.returns-then-fell-before
-returns-then-fell-before c = only_fell_then c.loop-far.invariant.0 c.spread-fell.ensures.0
+returns-then-fell-before c = only_fell_then c.loop-far.invariant.0 (rw c.loop-far.auto.row at c.spread-fell.ensures.0)
 
 pub loop-far-preserved : goal.loop-far-preserved
-loop-far-preserved c = (only_fell_then c.loop-far.invariant.0 c.spread-fell.ensures.0, c.spread-fell.ensures.1)
+loop-far-preserved c = (only_fell_then c.loop-far.invariant.0 (rw c.loop-far.auto.row at c.spread-fell.ensures.0), c.spread-fell.ensures.1)
 
 pub returns : goal.returns
 returns c = c.loop-far.invariant.0

@@ -44,21 +44,19 @@ bounds-lanes-k-in-loop-rest c = omega (arith, here (goal.at.bounds-lanes-k-in-lo
 
 pub look-requires : goal.look-requires
 look-requires c =
-    let inside = (here (goal.at.look-requires c).Joined-back).0 in (
-      omega (arith, c.loop-rest.invariant.only.size, c.requires.1.wide),
-      λ e. (clean_lanes c.args.nodes c.args.lanes.now c.requires.0 e c.if-back.k inside).0,
-      λ e. (clean_lanes c.args.nodes c.args.lanes.now c.requires.0 e c.if-back.k inside).1,
-    )
+    let inside = (here (goal.at.look-requires c).Joined-back).0 in
+    let ends = clean_lanes _ c.args.lanes.now c.requires.0 in
+    rw c.loop-rest.auto.row (λ e. (ends e c.if-back.k inside).0, λ e. (ends e c.if-back.k inside).1)
 
 pub loop-rest-preserved-then-look : goal.loop-rest-preserved-then-look
 loop-rest-preserved-then-look c =
     let lane = here (goal.at.loop-rest-preserved-then-look c).Joined-back in
-    sweeping_look c.loop-rest.invariant (omega arith) c.if-back.k lane.0 lane.1 c.requires.1.wide c.look.ensures (rw c.if-look.true (omega arith))
+    sweeping_look c.loop-rest.invariant (omega arith) c.if-back.k lane.0 lane.1 c.requires.1.wide (rw c.loop-rest.auto.row at c.look.ensures) (rw c.if-look.true (omega arith))
 
 pub loop-rest-preserved : goal.loop-rest-preserved
 loop-rest-preserved c =
     let lane = here (goal.at.loop-rest-preserved c).Joined-back in
-    sweeping_look c.loop-rest.invariant (omega arith) c.if-back.k lane.0 lane.1 c.requires.1.wide c.look.ensures (rw c.if-look.false)
+    sweeping_look c.loop-rest.invariant (omega arith) c.if-back.k lane.0 lane.1 c.requires.1.wide (rw c.loop-rest.auto.row at c.look.ensures) (rw c.if-look.false)
 
 pub returns : goal.returns
 returns c =

@@ -1,6 +1,7 @@
 -- The invariant of `sweep` is `Sweeping`, and the measure is how many lanes are left.
+use Rattle.std.proofs.Common.{length}
 use Rattle.walk.proofs.WalkSweep.{Sweeping}
 use Rattle.walk.proofs.sweep.Given as goal
 
 abbrev pub invariant-loop-rest : goal.invariant-loop-rest
-invariant-loop-rest l = Sweeping l.nodes l.lanes l.back l.initial.row l.row l.rest l.next
+invariant-loop-rest l = Sweeping (length l.initial.row) l.lanes l.back l.initial.row l.row l.rest l.next
