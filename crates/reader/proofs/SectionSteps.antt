@@ -4,12 +4,12 @@
 --     word_there        its word is among the words
 --     step_missing      no line of its count stands, and it may be missing
 --     step_lacks        no line of its count stands, and it must: refused with 1
---     step_below, step_above    its count is too small, or too great: refused with 2
+--     step_unfit        its count is too small or too great: refused with 2
 --     step_counted      its count fits, and is all
 --     entries_ready, step_stops, step_entries    its count fits, and its entries may be read, and one is refused,
 --                       or they were
 use mathlib.Core.Path.{◌≡◌, refl, sym, ◌∙◌, ap, subst}
-use mathlib.Core.Logic.{◌↔◌, inl, inr}
+use mathlib.Core.Logic.{◌↔◌, ◌⊎◌, inl, inr}
 use mathlib.Core.List.{List, [], ◌∷◌}
 use mathlib.Core.Bool.{true, false}
 use Prim.Native.Nat.{ℕ, ◌*◌, ◌≤◌, ◌<◌}
@@ -110,21 +110,19 @@ module _ (text closed : List ℕ) (which : Sections) (job : Job) (here : Cursor)
       taken : CountTaken text (in_form which).word here n next
       taken = rw got at at_word
 
-      module _ (r : Refusal) (e : r ≡ record { fault = BadCount; place = here.line }) where
-        step_unfit : ¬ ((terms.least ≤ n) × (n ≤ terms.greatest))
-            → SectionStep text closed which job here before table (Err r)
-        step_unfit unfit = rw e (record {
-          takes = λ read left asks x.
-              count_unfit text here read (in_form which) left x n next taken
-              (λ f. unfit ((fits_here read asks n).1 f));
-          beyond = beyond_here;
-        })
+      outside : (n < terms.least) ⊎ (terms.greatest < n) → ¬ ((terms.least ≤ n) × (n ≤ terms.greatest))
+      outside (inl h) f = omega (arith, f.0)
+      outside (inr h) f = omega (arith, f.1)
 
-        pub step_below : n < terms.least → SectionStep text closed which job here before table (Err r)
-        step_below h = step_unfit (λ f. let x : ⊥ = omega (arith, f.0) in x)
-
-        pub step_above : terms.greatest < n → SectionStep text closed which job here before table (Err r)
-        step_above h = step_unfit (λ f. let x : ⊥ = omega (arith, f.1) in x)
+      pub step_unfit : (r : Refusal) → r ≡ record { fault = BadCount; place = here.line }
+          → (n < terms.least) ⊎ (terms.greatest < n)
+          → SectionStep text closed which job here before table (Err r)
+      step_unfit r e unfit = rw e (record {
+        takes = λ read left asks x.
+            count_unfit text here read (in_form which) left x n next taken
+            (λ f. outside unfit ((fits_here read asks n).1 f));
+        beyond = beyond_here;
+      })
 
       -- it fits, and is put in
       module _ (low : terms.least ≤ n) (high : n ≤ terms.greatest)

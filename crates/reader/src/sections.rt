@@ -96,20 +96,18 @@ fn terms_of(which: Sections, carriers: usize) -> Terms
 {
     match which {
         Sections::Nodes => Terms::NODES,
-        Sections::Dwell => Terms::DWELL,
-        Sections::Listed(entries) => match entries {
-            Entries::Lanes => Terms::LANES,
-            Entries::Closed => Terms::CLOSED,
-            Entries::Moves => Terms::CARRIERS,
-            Entries::Places => Terms {
-                from: 24,
-                to: 29,
-                room: Job::CARRIERS,
-                least: carriers,
-                greatest: carriers,
-                optional: false,
-            },
+        Sections::Listed(Entries::Lanes) => Terms::LANES,
+        Sections::Listed(Entries::Closed) => Terms::CLOSED,
+        Sections::Listed(Entries::Moves) => Terms::CARRIERS,
+        Sections::Listed(Entries::Places) => Terms {
+            from: 24,
+            to: 29,
+            room: Job::CARRIERS,
+            least: carriers,
+            greatest: carriers,
+            optional: false,
         },
+        Sections::Dwell => Terms::DWELL,
     }
 }
 
@@ -120,13 +118,11 @@ fn with_count(which: Sections, count: usize, before: Job) -> Job
     let mut job = before;
     match which {
         Sections::Nodes => job.nodes = count,
+        Sections::Listed(Entries::Lanes) => job.lanes = count,
+        Sections::Listed(Entries::Closed) => job.closed = count,
+        Sections::Listed(Entries::Moves) => job.carriers = count,
+        Sections::Listed(Entries::Places) => {}
         Sections::Dwell => job.dwell = count,
-        Sections::Listed(entries) => match entries {
-            Entries::Lanes => job.lanes = count,
-            Entries::Closed => job.closed = count,
-            Entries::Moves => job.carriers = count,
-            Entries::Places => {}
-        },
     }
     job
 }
@@ -157,10 +153,7 @@ pub(crate) fn section(
         return Err(Refusal::new(Fault::Malformed, here.line));
     };
     let count = number as usize;
-    if count < terms.least {
-        return Err(Refusal::new(Fault::BadCount, here.line));
-    }
-    if terms.greatest < count {
+    if count < terms.least || terms.greatest < count {
         return Err(Refusal::new(Fault::BadCount, here.line));
     }
     let job = with_count(which, count, before);

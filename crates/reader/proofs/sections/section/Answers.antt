@@ -1,8 +1,11 @@
 -- No line of the count stands, and the section is missing or lacks; the count does not fit; or it does, and is
 -- all, or its entries follow. Each answer is one law of SectionSteps.antt.
+use Rattle.std.proofs.Common.{inl, inr}
 use Rattle.std.proofs.lemmas.Result.{err_from_is_err_and}
-use Rattle.reader.proofs.SectionSteps.{word_there, step_missing, step_lacks, step_below, step_above}
+use Rattle.reader.proofs.SectionSteps.{word_there, step_missing, step_lacks, step_unfit}
 use Rattle.reader.proofs.SectionSteps.{step_counted, entries_ready, step_stops, step_entries}
+use Rattle.reader.proofs.sections.section.Goals.{then-count-terms-via-then-count-terms}
+use Rattle.reader.proofs.sections.section.Goals.{then-count-terms-via-else-count-terms+then-terms-count}
 use Rattle.reader.proofs.sections.section.Goals as goal
 
 pub counted-requires : goal.counted-requires
@@ -20,13 +23,12 @@ returns-in_default c =
 
 pub returns-then-count-terms : goal.returns-then-count-terms
 returns-then-count-terms c =
-    step_below _ _ _ _ _ _ _ _ c.terms_of-terms.ensures c.fill_first.ensures c.requires.1 _
-    c.counted.ensures _ _ c.in-Some.is _ c.new-then-count-terms.ensures c.if-count-terms.true
-
-pub returns-then-terms-count : goal.returns-then-terms-count
-returns-then-terms-count c =
-    step_above _ _ _ _ _ _ _ _ c.terms_of-terms.ensures c.fill_first.ensures c.requires.1 _
-    c.counted.ensures _ _ c.in-Some.is _ c.new-then-terms-count.ensures c.if-terms-count.true
+    step_unfit _ _ _ _ _ _ _ _ c.terms_of-terms.ensures c.fill_first.ensures c.requires.1 _
+    c.counted.ensures _ _ c.in-Some.is _ c.new-then-count-terms.ensures
+    (elim c.then-count-terms.branch [
+      | then-count-terms-via-then-count-terms w ↦ inl w.if-count-terms.true
+      | then-count-terms-via-else-count-terms+then-terms-count w ↦ inr w.if-terms-count.true
+    ])
 
 pub returns-in_default-which : goal.returns-in_default-which
 returns-in_default-which c =
