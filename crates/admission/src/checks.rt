@@ -50,7 +50,7 @@ pub(crate) fn check_call(
 {
     check_book(*book, t)?;
     check_reached(network, ends, rows)?;
-    check_held(network, book, t)
+    check_held(network, book.slots, book.dwell, t)
 }
 
 // The same. Where `known`, all that is asked of the book, the clock value and the network is known to pass,

@@ -103,14 +103,19 @@ fn lowest_by(
 
 // One slot more: where it stands and none before it with its start does, all that stand and have its start
 // are judged by one walk from there.
-fn sieve(network: &Network, book: &Book, t: u32, i: usize, lowest: usize) -> usize
-    requires { (network.now.nodes ≤ node_limit) × (i < lowest) × (¬ SomeBadSlot book.now.slots)
-        × Sieved (network_in network.now) book.now.dwell t book.now.slots i lowest }
-    ensures { Sieved (network_in network.now) book.now.dwell t book.now.slots (i + 1) result }
+fn sieve(
+    network: &Network,
+    slots: [Slot; Book::SLOTS],
+    dwell: u32,
+    t: u32,
+    i: usize,
+    lowest: usize,
+) -> usize
+    requires { (network.now.nodes ≤ node_limit) × (i < lowest) × (¬ SomeBadSlot slots)
+        × Sieved (network_in network.now) dwell t slots i lowest }
+    ensures { Sieved (network_in network.now) dwell t slots (i + 1) result }
 {
     let mut row: [u16; Job::NODES] = [0; Job::NODES];
-    let slots = book.slots;
-    let dwell = book.dwell;
     let slot = slots[i];
     let start = slot.start;
     if !stands(slot, dwell, t) {
@@ -120,20 +125,35 @@ fn sieve(network: &Network, book: &Book, t: u32, i: usize, lowest: usize) -> usi
         return lowest;
     }
     let served = walk::distances(network, start, &mut row);
-    lowest_by(network.nodes, served, &row, start, slots, dwell, t, i, lowest)
+    lowest_by(
+        network.nodes,
+        served,
+        &row,
+        start,
+        slots,
+        dwell,
+        t,
+        i,
+        lowest,
+    )
 }
 
 // 17, at the lowest slot. The loop ends when all slots below the lowest stale one that was found are judged.
-pub(crate) fn check_held(network: &Network, book: &Book, t: u32) -> Result<(), Refusal>
-    requires { (network.now.nodes ≤ node_limit) × (¬ SomeBadSlot book.now.slots) }
+pub(crate) fn check_held(
+    network: &Network,
+    slots: [Slot; Book::SLOTS],
+    dwell: u32,
+    t: u32,
+) -> Result<(), Refusal>
+    requires { (network.now.nodes ≤ node_limit) × (¬ SomeBadSlot slots) }
     ensures { Judged
-        (stale_slots (network_in network.now) book.now.dwell t book.now.slots ∷ [])
+        (stale_slots (network_in network.now) dwell t slots ∷ [])
         result }
 {
     let mut lowest: usize = Book::SLOTS;
     let mut i: usize = 0;
     while i < lowest {
-        lowest = sieve(network, book, t, i, lowest);
+        lowest = sieve(network, slots, dwell, t, i, lowest);
         i += 1;
     }
     if lowest < Book::SLOTS {

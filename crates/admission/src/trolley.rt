@@ -32,13 +32,7 @@ pub struct Rode {
 }
 
 // The moves one by one. The start tick of each that is admitted goes to its place in the list.
-fn ride_moves(
-    book: Book,
-    clock: u32,
-    network: &Network,
-    moves: &[u16],
-    ticks: &mut [u32],
-) -> Rode
+fn ride_moves(book: Book, clock: u32, network: &Network, moves: &[u16], ticks: &mut [u32]) -> Rode
     requires { move_count moves.now ≤ length ticks.old }
     ensures { Riding
         (network_in network.now)
@@ -76,13 +70,7 @@ fn ride_moves(
 
 // A trolley at the clock value `clock`, which the rules call now: in a contract `now` is what is lent. 9 for
 // a list of ticks that is too short and 2 for too many moves come before any admission; then the moves.
-pub fn ride(
-    book: Book,
-    clock: u32,
-    network: &Network,
-    moves: &[u16],
-    ticks: &mut [u32],
-) -> Rode
+pub fn ride(book: Book, clock: u32, network: &Network, moves: &[u16], ticks: &mut [u32]) -> Rode
     ensures { Ride
         (network_in network.now)
         book clock

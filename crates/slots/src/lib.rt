@@ -8,10 +8,10 @@
 // there and nowhere else.
 #![tactic(auto)]
 
-ghost use Rattle.std.specs.Prelude.{◌≡◌};
+ghost use Rattle.std.specs.Prelude.{◌≡◌, length};
 ghost use Rattle.hall.specs.Rule.{Answers};
 ghost use Rattle.hall.specs.Said.{Judged};
-ghost use Rattle.slots.specs.Record.{slot_is_free, last_tick, StandsAt};
+ghost use Rattle.slots.specs.Record.{slot_count, slot_is_free, last_tick, StandsAt};
 ghost use Rattle.slots.specs.Record.{book_with, empty_book, forgotten, forgetting, AsFree};
 ghost use Rattle.slots.specs.Refusals.{BadHeld, SomeBadSlot, Damaged};
 ghost use Rattle.slots.specs.Questions.{book_question};
@@ -145,9 +145,11 @@ fn kept(slot: Slot, dwell: u32, clock: u32) -> Slot
 
 // ---- all slots
 
-// The slots of a book, where each carrier whose last tick is before the clock value is forgotten.
+// The slots of a book, where each carrier whose last tick is before the clock value is forgotten. That there
+// are 64 of them is said here, since a function of another crate that is lent a book does not see it.
 pub fn forget(book: &Book, clock: u32) -> [Slot; Book::SLOTS]
-    ensures { result ≡ forgetting book.now.dwell clock book.now.slots }
+    ensures forgets { result ≡ forgetting book.now.dwell clock book.now.slots }
+    ensures so_many { length book.now.slots ≡ slot_count }
 {
     let mut left = book.slots;
     for slot in &mut left {

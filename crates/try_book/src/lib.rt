@@ -28,10 +28,7 @@ pub fn admit_lent(book: Book, clock: u32, network: &Network, ends: Ends) -> Step
 {
     let mut lent = book;
     let answer = admit(&mut lent, clock, network, ends);
-    Stepped {
-        answer,
-        book: lent,
-    }
+    Stepped { answer, book: lent }
 }
 
 // `book::admit_all` with the book lent.
@@ -50,10 +47,7 @@ pub fn admit_all_lent(
 {
     let mut lent = book;
     let ended = admit_all(&mut lent, clock, network, moves, ticks);
-    Rode {
-        ended,
-        book: lent,
-    }
+    Rode { ended, book: lent }
 }
 
 // `book::may_start` with the book lent.

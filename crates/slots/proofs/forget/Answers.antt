@@ -23,7 +23,7 @@ loop-slot-preserved c =
     let book = c.args.book.now in
     one_more book.dwell c.args.clock c.loop-slot.slot-index book.slots c.loop-slot.slot-items c.kept.result (omega arith) c.loop-slot.invariant c.kept.ensures
 
-pub returns : goal.returns
-returns c =
+pub returns-clause-forgets : goal.returns-clause-forgets
+returns-clause-forgets c =
     let book = c.args.book.now in
     whole book.dwell c.args.clock c.loop-slot.slot-index book.slots c.loop-slot.slot-items (omega arith) c.loop-slot.invariant

@@ -9,10 +9,10 @@ pub loop-i-init : goal.loop-i-init
 loop-i-init c j l = omega arith
 
 pub returns-then-blocks : goal.returns-then-blocks
-returns-then-blocks c = blocking (omega arith) (affirmed _ c.if-blocks.true c.blocks.ensures) c.loop-i.invariant
+returns-then-blocks c = blocking (omega arith) (affirmed _ c.if-blocks.true c.blocks-in-loop-i.ensures) c.loop-i.invariant
 
 pub loop-i-preserved : goal.loop-i-preserved
-loop-i-preserved c = below_more _ _ c.loop-i.invariant (denied _ c.if-blocks.false c.blocks.ensures)
+loop-i-preserved c = below_more _ _ c.loop-i.invariant (denied _ c.if-blocks.false c.blocks-in-loop-i.ensures)
 
 pub returns : goal.returns
 returns c = none_blocks (λ j l. c.loop-i.invariant j (omega arith))

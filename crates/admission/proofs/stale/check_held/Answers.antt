@@ -10,11 +10,11 @@ use Rattle.admission.proofs.stale.check_held.Goals as goal
 pub returns-then-lowest-lt-SLOTS : goal.returns-then-lowest-lt-SLOTS
 returns-then-lowest-lt-SLOTS c =
     let a = c.args in
-    let sized : length a.book.now.slots ≡ slot_count = omega arith in
-    rw c.new.ensures (first_here (sieved_first (network_in a.network.now) a.book.now.dwell a.t a.book.now.slots sized c.loop-i.invariant (omega arith) (omega arith)))
+    let sized : length a.slots ≡ slot_count = omega arith in
+    rw c.new.ensures (first_here (sieved_first (network_in a.network.now) a.dwell a.t a.slots sized c.loop-i.invariant (omega arith) (omega arith)))
 
 pub returns : goal.returns
 returns c =
     let a = c.args in
-    let sized : length a.book.now.slots ≡ slot_count = omega arith in
-    sieved_none (network_in a.network.now) a.book.now.dwell a.t a.book.now.slots sized c.loop-i.invariant (omega arith) (omega arith)
+    let sized : length a.slots ≡ slot_count = omega arith in
+    sieved_none (network_in a.network.now) a.dwell a.t a.slots sized c.loop-i.invariant (omega arith) (omega arith)

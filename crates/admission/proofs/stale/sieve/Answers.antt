@@ -13,8 +13,8 @@ bounds-slots-i c = omega (arith, c.requires.3.most)
 pub returns-then-not-stands : goal.returns-then-not-stands
 returns-then-not-stands c =
     let a = c.args in
-    let sized : length a.book.now.slots ≡ slot_count = omega arith in
-    sieve_passed (network_in a.network.now) a.book.now.dwell a.t a.book.now.slots sized c.requires.3 (denied _ c.if-not-stands.true c.stands.ensures)
+    let sized : length a.slots ≡ slot_count = omega arith in
+    sieve_passed (network_in a.network.now) a.dwell a.t a.slots sized c.requires.3 (denied _ c.if-not-stands.true c.stands.ensures)
 
 pub judged_before-requires : goal.judged_before-requires
 judged_before-requires c = omega (arith, c.requires.3.most)
@@ -22,8 +22,8 @@ judged_before-requires c = omega (arith, c.requires.3.most)
 pub returns-then-judged_before : goal.returns-then-judged_before
 returns-then-judged_before c =
     let a = c.args in
-    let sized : length a.book.now.slots ≡ slot_count = omega arith in
-    sieve_seen (network_in a.network.now) a.book.now.dwell a.t a.book.now.slots sized c.requires.3 (affirmed _ c.if-judged_before.true c.judged_before.ensures)
+    let sized : length a.slots ≡ slot_count = omega arith in
+    sieve_seen (network_in a.network.now) a.dwell a.t a.slots sized c.requires.3 (affirmed _ c.if-judged_before.true c.judged_before.ensures)
 
 pub lowest_by-requires : goal.lowest_by-requires
 lowest_by-requires c = (omega arith, omega (arith, c.requires.3.most))
@@ -31,6 +31,6 @@ lowest_by-requires c = (omega arith, omega (arith, c.requires.3.most))
 pub returns : goal.returns
 returns c =
     let a = c.args in
-    let sized : length a.book.now.slots ≡ slot_count = omega arith in
-    sieve_judged (network_in a.network.now) a.book.now.dwell a.t a.book.now.slots sized c.requires.3 c.requires.0 refl c.distances-served.ensures
-    (small_distance a.book.now.slots sized c.requires.2) (denied _ c.if-judged_before.false c.judged_before.ensures) c.lowest_by.ensures
+    let sized : length a.slots ≡ slot_count = omega arith in
+    sieve_judged (network_in a.network.now) a.dwell a.t a.slots sized c.requires.3 c.requires.0 refl c.distances-served.ensures
+    (small_distance a.slots sized c.requires.2) (denied _ c.if-judged_before.false c.judged_before.ensures) c.lowest_by.ensures
