@@ -53,6 +53,8 @@ use mathlib.Core.List.{List, [], ◌∷◌, ◌++◌}
 use Prim.Native.Nat.{ℕ, ◌-◌, ◌≤◌, ◌<◌}
 use native.Mathlib.Omega.{arith}
 use lib.ListN.{length}
+use Rattle.std.specs.Prelude.{Option, Result}
+use Rattle.hall.specs.declared.Refusal.{Refusal}
 use Rattle.hall.specs.Limits.{carrier_limit, dwell_limit}
 use Rattle.hall.specs.Floor.{Network, floor}
 use Rattle.hall.specs.Path.{ShortestPath, Meet, Cross}
@@ -70,9 +72,7 @@ use Rattle.slots.specs.declared.Book.{Book}
 use Rattle.slots.specs.Record.{slot_count, slot_at, last_tick, forgetting}
 use Rattle.slots.specs.Refusals.{clock_limit}
 use Rattle.admission.specs.declared.Entry.{Entry}
-use Rattle.admission.specs.declared.Answer.{Answer}
-use Rattle.admission.specs.declared.trolley.Ended.{Ended}
-use Rattle.admission.specs.declared.ask.Asked.{Asked}
+use Rattle.admission.specs.declared.trolley.Stop.{Stop}
 use Rattle.admission.specs.Questions.{full_book, call_question, admission_question}
 use Rattle.admission.specs.Admission.{PermitsOne, Admission, said_answer}
 use Rattle.admission.specs.Trolley.{Ending, all, stopped, refused_whole, said_ended, trolley_counts, to_the_end}
@@ -106,7 +106,7 @@ not_accepted : {n p : ℕ} {e : Entry} → refused n p ≡ accepted e → ⊥
 not_accepted e = let none : ◌≡◌ {A = ℕ} 0 1 = ap entries e in omega arith
 
 module _ (N : Network) {b left : Book} {now s g : ℕ} where
-  pub admission_once : {other : Book} (r r' : Answer) →
+  pub admission_once : {other : Book} (r r' : Result Entry Refusal) →
       Admission N b now s g (said_answer r) left → Admission N b now s g (said_answer r') other →
       (r ≡ r') × (left ≡ other)
   admission_once = answer_unique N
@@ -167,7 +167,7 @@ module _ (N : Network) (w : ℕ) {calls : List Call} {ever : List Slot} {b : Boo
 -- ---- a trolley, put to any book
 
 module _ (N : Network) (b : Book) (now : ℕ) (moves ticks : List ℕ) where
-  pub trolley_once : (r r' : Ended) {left other : Book} {ticks' others : List ℕ} →
+  pub trolley_once : (r r' : Result Unit Stop) {left other : Book} {ticks' others : List ℕ} →
       Ride N b now moves ticks (said_ended r) left ticks' → Ride N b now moves ticks (said_ended r') other others →
       (r ≡ r') × (left ≡ other) × (ticks' ≡ others)
   trolley_once = ended_unique N b now moves ticks
@@ -278,7 +278,7 @@ kept_is_day = trolleys.kept_day
 -- ---- may it go at this tick
 
 module _ (N : Network) (b : Book) (t s g : ℕ) where
-  pub asking_once : (r r' : Asked) → Asking N b t s g (said_asked r) → Asking N b t s g (said_asked r') → r ≡ r'
+  pub asking_once : (r r' : Result (Option ℕ) Refusal) → Asking N b t s g (said_asked r) → Asking N b t s g (said_asked r') → r ≡ r'
   asking_once = asked_unique N
 
   pub asked_exactly : (said : Said Verdict) → Asking N b t s g said →
