@@ -9,7 +9,7 @@ use mathlib.Core.List.{List, []}
 use Prim.Native.Nat.{ℕ, ◌<◌}
 use lib.ListN.{length, get_or}
 use Rattle.hall.specs.Job.{move_count}
-use Rattle.hall.specs.Left.{zeroed, filled}
+use Rattle.hall.specs.Left.{with_front, filled}
 use Rattle.hall.specs.Said.{Said}
 use Rattle.slots.specs.Record.{forgotten, forgetting}
 use Rattle.admission.specs.declared.Entry.{Entry}
@@ -42,7 +42,7 @@ no_trolley = trolley (hall5 []) (book 0 0 []) 0 [] all [] (book 0 0 [])
 -- ---- the cases
 
 pub all_trolley_cases : (k : ℕ) → k < length trolley_cases → HoldsTrolley (get_or trolley_cases k no_trolley)
-unfolding trolley_cases forgetting forgotten filled zeroed
+unfolding trolley_cases forgetting forgotten filled with_front
 all_trolley_cases k h =
     ((all? (λ k. right-trolley? (get_or trolley_cases k no_trolley)) (length trolley_cases)).sound tt k h).1
 
@@ -50,6 +50,6 @@ all_trolley_cases k h =
 
 pub no_wrong_trolley_case : (k : ℕ) → k < length wrong_trolley_cases
     → ¬ HoldsTrolley (get_or wrong_trolley_cases k no_trolley)
-unfolding wrong_trolley_cases forgetting forgotten filled zeroed
+unfolding wrong_trolley_cases forgetting forgotten filled with_front
 no_wrong_trolley_case k h =
     ((all? (λ k. wrong-trolley? (get_or wrong_trolley_cases k no_trolley)) (length wrong_trolley_cases)).sound tt k h).1
