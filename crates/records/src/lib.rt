@@ -18,18 +18,20 @@ pub struct Record {
 
 // Copies the start and the goal of each record to the front of `moves`, two numbers for each, for as many
 // records as have room.
+#[tactic(auto, using(crate::proofs::Lists::load_step))]
 pub fn load_moves(records: &[Record], moves: &mut [u16])
     ensures { moves.new ≡ moved records.now moves.old }
 {
     let n = records.len().min(moves.len() / 2);
-    for (i, r) in records[..n].iter().enumerate() {
-        moves[2 * i] = r.start;
-        moves[2 * i + 1] = r.goal;
+    for i in 0..n {
+        moves[2 * i] = records[i].start;
+        moves[2 * i + 1] = records[i].goal;
     }
 }
 
 // Writes the distance and the tick of the first `count` records, as many as there are records, distances and
 // ticks. Nothing else in a record changes (rule 9.7).
+#[tactic(auto, using(crate::proofs::Lists::timed_step, crate::proofs::Lists::timed_all))]
 pub fn store_times(records: &mut [Record], count: usize, distances: &[u16], ticks: &[u32])
     ensures { records.new
         ≡ timed count records.old distances.now ticks.now }
@@ -48,6 +50,7 @@ pub fn store_times(records: &mut [Record], count: usize, distances: &[u16], tick
 
 // The first `count` records, as many as there are records and pairs of moves, become records of those moves,
 // with distance and tick 0 (rule 9.5).
+#[tactic(auto, using(crate::proofs::Lists::placed_step, crate::proofs::Lists::placed_all))]
 pub fn store_moves(records: &mut [Record], count: usize, moves: &[u16])
     ensures { records.new ≡ placed count records.old moves.now }
 {
