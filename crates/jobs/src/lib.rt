@@ -9,11 +9,14 @@
 // distances and ticks of 64.
 #![tactic(auto)]
 
+ghost use Rattle.std.specs.Prelude.{◌≡◌, ◌*◌, replicate};
 ghost use Rattle.hall.specs.Floor.{network_in};
+ghost use Rattle.records.specs.Table.{moved};
 ghost use Rattle.recorded.specs.Reading.{ReadLeft};
 ghost use Rattle.recorded.specs.Writing.{RecordWriting};
 ghost use Rattle.recorded.specs.Planning.{RecordPlanning};
 ghost use Rattle.recorded.specs.Asking.{HouseOfRecords, ListOfRecords};
+ghost use Rattle.recorded.specs.Loading.{crowd};
 
 use hall::{Carrier, Job, JobNumbers, Network, Refusal};
 use recorded::{
@@ -48,6 +51,17 @@ pub fn read_job(
     answer
 }
 
+// ---- the moves of the records
+
+// The starts and goals of as many records as are looked at, zeros behind them.
+fn loaded(records: &[Record]) -> [u16; LOADED_NUMBERS]
+    ensures { result ≡ moved records.now (replicate (2 * crowd) 0) }
+{
+    let mut moves = [0; LOADED_NUMBERS];
+    load_moves(records, &mut moves);
+    moves
+}
+
 // ---- writing
 
 // Writes a job as its text, to the front of an output of 47,142 bytes at least; answers how many bytes the
@@ -68,8 +82,7 @@ pub fn write_job(
         out.old out.new
         result }
 {
-    let mut moves = [0u16; LOADED_NUMBERS];
-    load_moves(records, &mut moves);
+    let moves = loaded(records);
     let job = JobNumbers {
         network: *network,
         moves: &moves,
@@ -99,11 +112,10 @@ pub fn plan(
         table.old table.new
         result }
 {
-    let mut moves = [0u16; LOADED_NUMBERS];
+    let moves = loaded(records);
     let mut distances = [0u16; Job::CARRIERS];
     let mut ticks = [0u32; Job::CARRIERS];
     let n = records.len();
-    load_moves(records, &mut moves);
     let job = JobNumbers {
         network: *network,
         moves: &moves,
@@ -138,8 +150,7 @@ pub fn house(
         path.old path.new
         result }
 {
-    let mut moves = [0u16; LOADED_NUMBERS];
-    load_moves(records, &mut moves);
+    let moves = loaded(records);
     let job = JobNumbers {
         network: *network,
         moves: &moves,
@@ -168,8 +179,7 @@ pub fn judge(
         list.now list.now
         result }
 {
-    let mut moves = [0u16; LOADED_NUMBERS];
-    load_moves(records, &mut moves);
+    let moves = loaded(records);
     let job = JobNumbers {
         network: *network,
         moves: &moves,

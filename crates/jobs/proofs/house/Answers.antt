@@ -4,4 +4,4 @@ use Rattle.recorded.proofs.AskRecords.{records_housed}
 use Rattle.jobs.proofs.house.Goals as goal
 
 pub returns : goal.returns
-returns c = records_housed _ _ _ _ _ _ _ _ (rw c.load_moves.ensures at c.house_loaded.ensures)
+returns c = records_housed _ _ _ _ _ _ _ _ (rw c.loaded-moves.ensures at c.house_loaded.ensures)

@@ -4,4 +4,4 @@ use Rattle.recorded.proofs.AskRecords.{records_judged}
 use Rattle.jobs.proofs.judge.Goals as goal
 
 pub returns : goal.returns
-returns c = records_judged _ _ _ _ _ _ _ (rw c.load_moves.ensures at c.judge_loaded.ensures)
+returns c = records_judged _ _ _ _ _ _ _ (rw c.loaded-moves.ensures at c.judge_loaded.ensures)

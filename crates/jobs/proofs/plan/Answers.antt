@@ -5,5 +5,5 @@ use Rattle.jobs.proofs.plan.Goals as goal
 
 pub returns : goal.returns
 returns c =
-    records_planned _ _ _ _ _ _ _ _ _ _ (rw c.load_moves.ensures at c.plan_loaded-answer.ensures)
+    records_planned _ _ _ _ _ _ _ _ _ _ (rw c.loaded-moves.ensures at c.plan_loaded-answer.ensures)
     (rw c.stored_count-count.ensures at c.store_times.ensures)

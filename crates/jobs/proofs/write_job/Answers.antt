@@ -4,4 +4,4 @@ use Rattle.recorded.proofs.WriteRecords.{records_written}
 use Rattle.jobs.proofs.write_job.Goals as goal
 
 pub returns : goal.returns
-returns c = records_written _ _ _ _ _ _ _ (rw c.load_moves.ensures at c.write_loaded.ensures)
+returns c = records_written _ _ _ _ _ _ _ (rw c.loaded-moves.ensures at c.write_loaded.ensures)
