@@ -1,7 +1,6 @@
 -- What differs between the sections, each section by itself: its word, its terms, and that its count leaves
 -- what its entries ask for. Assumes nothing.
 --     capitals         the letters of its word are capital letters, as the cursor asks for
---     word_in          its word stands among the words where its terms say
 --     limited          the counts from the least to the greatest are those that fit it
 --     form_terms       the terms have its table's least length, and let it be missing where the form does
 --     room_for         its numbers have room in a table of its least length
@@ -12,7 +11,6 @@ use mathlib.Core.Logic.{◌↔◌}
 use mathlib.Core.List.{List}
 use Prim.Native.Nat.{ℕ, ◌*◌, ◌≤◌}
 use native.Mathlib.Omega.{arith}
-use lib.ListN.{length}
 use Rattle.hall.specs.declared.Job.{Job}
 use Rattle.form.specs.Sections.{Content, CountFits, due}
 use Rattle.form.specs.Words.{NODES, LANES, CLOSED, CARRIERS, ORDER, DWELL}
@@ -23,7 +21,7 @@ use Rattle.network.specs.declared.entries.Entries.TheVariants.{Lanes, Closed, Mo
 use Rattle.reader.specs.declared.sections.Sections.{Sections}
 use Rattle.reader.specs.declared.sections.Sections.TheVariants.{Nodes, Dwell, Listed}
 use Rattle.reader.specs.Entries.{Asks}
-use Rattle.reader.specs.Sections.{in_form, words, word_from, room_of, terms_in, with_count}
+use Rattle.reader.specs.Sections.{in_form, room_of, terms_in, with_count}
 
 pub capitals : (which : Sections) → Capitals (in_form which).word
 unfolding NODES LANES CLOSED CARRIERS ORDER DWELL
@@ -33,19 +31,6 @@ capitals (Listed Closed) = omega arith
 capitals (Listed Moves) = omega arith
 capitals (Listed Places) = omega arith
 capitals Dwell = omega arith
-
--- its word is the letters that its terms name
-pub word_in : (which : Sections) (carriers : ℕ)
-    → (word_from (terms_in which carriers).from (terms_in which carriers).to ≡ (in_form which).word)
-    × ((terms_in which carriers).from ≤ (terms_in which carriers).to)
-    × ((terms_in which carriers).to ≤ length words)
-unfolding NODES LANES CLOSED CARRIERS ORDER DWELL
-word_in Nodes k = (refl, omega arith, omega arith)
-word_in (Listed Lanes) k = (refl, omega arith, omega arith)
-word_in (Listed Closed) k = (refl, omega arith, omega arith)
-word_in (Listed Moves) k = (refl, omega arith, omega arith)
-word_in (Listed Places) k = (refl, omega arith, omega arith)
-word_in Dwell k = (refl, omega arith, omega arith)
 
 -- the order's count is the carriers'
 pub limited : (which : Sections) (job : Job) (closed : List ℕ) (read : List Content)

@@ -1,7 +1,6 @@
 -- A section as one step: each answer is one law of the form, of the line of its count (CountLines.antt), of
 -- sections that are passed over (Skipped.antt) or of the lines of its entries (EntryLines.antt). What differs
 -- between the sections is in SectionKinds.antt. Assumes nothing.
---     word_there        its word is among the words
 --     step_missing      no line of its count stands, and it may be missing
 --     step_lacks        no line of its count stands, and it must: refused with 1
 --     step_unfit        its count is too small or too great: refused with 2
@@ -34,21 +33,17 @@ use Rattle.reader.specs.declared.sections.Sections.{Sections}
 use Rattle.reader.specs.declared.sections.Sections.TheVariants.{Listed}
 use Rattle.reader.specs.declared.sections.Terms.{Terms}
 use Rattle.reader.specs.Entries.{Asks, section_of, Begun, EntriesRead}
-use Rattle.reader.specs.Sections.{in_form, words, word_from, room_of, terms_in, with_count, Stood}
+use Rattle.reader.specs.Sections.{in_form, room_of, terms_in, with_count, Stood}
 use Rattle.reader.specs.Sections.{Ready, SectionRead, SectionStep}
 use Rattle.reader.proofs.Left.{beyond_zeroed, laid_filled}
 use Rattle.reader.proofs.Skipped.{skipped_lacking}
-use Rattle.reader.proofs.SectionKinds.{capitals, word_in, limited, form_terms, room_for, asks_still}
+use Rattle.reader.proofs.SectionKinds.{capitals, limited, form_terms, room_for, asks_still}
 use Rattle.reader.proofs.SectionKinds.{no_entries}
 use Rattle.reader.proofs.EntryKinds.{due_is}
 use Rattle.reader.proofs.EntryLines.{drop_further}
 use Rattle.reader.proofs.CountLines.{count_leads, count_unfit, fits_most}
 
 -- ---- a section, by its terms, once its table is zero
-
-pub word_there : (which : Sections) (k : ℕ) (terms : Terms) → terms ≡ terms_in which k
-    → (terms.from ≤ terms.to) × (terms.to ≤ length words)
-word_there which k terms is = rw is ((word_in which k).1, (word_in which k).2)
 
 module _ (text closed : List ℕ) (which : Sections) (job : Job) (here : Cursor) (before table : List ℕ)
     (terms : Terms) (is_terms : terms ≡ terms_in which job.carriers)
@@ -69,13 +64,10 @@ module _ (text closed : List ℕ) (which : Sections) (job : Job) (here : Cursor)
   beyond_here : drop (room_of which) table ≡ drop (room_of which) before
   beyond_here = rw zeros_here (beyond_zeroed (room_of which) before long)
 
-  word_here : word_from terms.from terms.to ≡ (in_form which).word
-  word_here =
-      ap (λ (t : Terms). word_from t.from t.to) is_terms ∙ (word_in which job.carriers).0
-
-  module _ (a : Option (ℕ × Cursor)) (c : Counting text (word_from terms.from terms.to) here a) where
+  module _ (word : List ℕ) (is_word : word ≡ (in_form which).word) (a : Option (ℕ × Cursor))
+      (c : Counting text word here a) where
     at_word : Counting text (in_form which).word here a
-    at_word = subst (λ (w : List ℕ). Counting text w here a) word_here c
+    at_word = subst (λ (w : List ℕ). Counting text w here a) is_word c
 
     -- no line of its count stands
     module _ (bad : a ≡ None) where

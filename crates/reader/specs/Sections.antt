@@ -3,9 +3,8 @@
 -- more changes no other step.
 --     in_form         the section of the form that is read
 --     room_of         the least length of its table; 0 where it has no entries
---     words          the words of the sections, one behind the other; `word_from` the letters of one of them
---     terms_in        its terms, by the carriers so far: where its word stands among these, the least length
---                    of its table, the least and the greatest count that fit, and whether it may be missing
+--     terms_in        its terms, by the carriers so far: the least length of its table, the least and the
+--                    greatest count that fit, and whether it may be missing
 --     with_count      the counts with that of a section put in; the order's is the carriers'
 --     Skips          of the sections `more`, `left` are left once those before them are passed over: each of
 --                    these may be missing, and no line of its count stands at the front of `rest`
@@ -21,14 +20,13 @@
 --                    least length on are as they were, whatever it answers
 --     EndStep        what the last step answers: the text is accepted with the sections read, or refused
 -- `terms`, `counting`, `SectionAnswer` and `EndAnswer` are parts of these.
-use Rattle.std.specs.Prelude.{◌≡◌, ◌⊎◌, List, [], ◌∷◌, ◌++◌, Bool, true, false, ℕ, ◌-◌, ◌≤◌, length, take, drop, Result, Ok, Err}
+use Rattle.std.specs.Prelude.{◌≡◌, ◌⊎◌, List, [], ◌∷◌, Bool, true, false, ℕ, ◌≤◌, length, take, drop, Result, Ok, Err}
 use Rattle.hall.specs.declared.Refusal.{Refusal}
 use Rattle.hall.specs.declared.Job.{Job}
 use Rattle.hall.specs.Limits.{node_limit, lane_limit, carrier_limit, dwell_limit, lane_numbers, move_numbers}
 use Rattle.hall.specs.Left.{zeroed, filled}
 use Rattle.form.specs.Lines.{Counted}
 use Rattle.form.specs.Sections.{Section, Form, Content, CountFits, due, numbers_in}
-use Rattle.form.specs.Words.{NODES, LANES, CLOSED, CARRIERS, ORDER, DWELL}
 use Rattle.form.specs.Stands.{Stand, contents, behind, Whole}
 use Rattle.form.specs.Texts.{WrittenForm}
 use Rattle.form.specs.JobText.{nodes_section, dwell_section, job_text}
@@ -55,23 +53,17 @@ room_of (Listed Moves) = move_numbers
 room_of (Listed Places) = carrier_limit
 room_of Dwell = 0
 
-abbrev pub words : List ℕ
-words = NODES ++ (LANES ++ (CLOSED ++ (CARRIERS ++ (ORDER ++ DWELL))))
-
-abbrev pub word_from : (from to : ℕ) → List ℕ
-word_from from to = take (to - from) (drop from words)
-
-abbrev pub terms : (from to room least greatest : ℕ) → Bool → Terms
-terms from to room least greatest optional =
-    record { from = from; to = to; room = room; least = least; greatest = greatest; optional = optional }
+abbrev pub terms : (room least greatest : ℕ) → Bool → Terms
+terms room least greatest optional =
+    record { room = room; least = least; greatest = greatest; optional = optional }
 
 abbrev pub terms_in : Sections → (carriers : ℕ) → Terms
-terms_in Nodes k = terms 0 5 0 1 node_limit false
-terms_in (Listed Lanes) k = terms 5 10 lane_numbers 0 lane_limit false
-terms_in (Listed Closed) k = terms 10 16 node_limit 1 node_limit true
-terms_in (Listed Moves) k = terms 16 24 move_numbers 0 carrier_limit false
-terms_in (Listed Places) k = terms 24 29 carrier_limit k k false
-terms_in Dwell k = terms 29 34 0 1 dwell_limit true
+terms_in Nodes k = terms 0 1 node_limit false
+terms_in (Listed Lanes) k = terms lane_numbers 0 lane_limit false
+terms_in (Listed Closed) k = terms node_limit 1 node_limit true
+terms_in (Listed Moves) k = terms move_numbers 0 carrier_limit false
+terms_in (Listed Places) k = terms carrier_limit k k false
+terms_in Dwell k = terms 0 1 dwell_limit true
 
 abbrev pub counting : (nodes lanes closed carriers dwell : ℕ) → Job
 counting n m c k w = record { nodes = n; lanes = m; closed = c; carriers = k; dwell = w }

@@ -1,10 +1,9 @@
 // The sections of a job text (rules 7.1, 7.8 to 7.13, 7.17 and 7.18). One step reads any of them: it takes
 // what was read so far, and puts the section's count and its entries to it. The sections differ in their
-// terms, in where their count goes and in what they list; a section that is added to the form is one case
+// words and terms, in where their count goes and in what they list; a section that is added to the form is one case
 // more in each of these. The last step asks for the end of the text.
 ghost use Rattle.std.specs.Prelude.{◌≡◌, ◌≤◌, length};
-ghost use Rattle.cursor.specs.Steps.{Counting};
-ghost use Rattle.reader.specs.Sections.{words, word_from, room_of, terms_in, with_count};
+ghost use Rattle.reader.specs.Sections.{in_form, room_of, terms_in, with_count};
 ghost use Rattle.reader.specs.Sections.{Ready, SectionStep, EndStep};
 
 use crate::lines::entry_lines;
@@ -21,12 +20,10 @@ pub enum Sections {
     Listed(Entries),
 }
 
-// On which terms a section stands: which letters of the words are its own, the least length of its table, the
-// least and the greatest count that fit, and whether it may be missing.
+// On which terms a section stands: the least length of its table, the least and the greatest count that fit, and
+// whether it may be missing.
 #[derive(Drop)]
 pub struct Terms {
-    pub from: usize,
-    pub to: usize,
     pub room: usize,
     pub least: usize,
     pub greatest: usize,
@@ -35,8 +32,6 @@ pub struct Terms {
 
 impl Terms {
     const NODES: Terms = Terms {
-        from: 0,
-        to: 5,
         room: 0,
         least: 1,
         greatest: Job::NODES,
@@ -44,8 +39,6 @@ impl Terms {
     };
 
     const LANES: Terms = Terms {
-        from: 5,
-        to: 10,
         room: Job::LANE_NUMBERS,
         least: 0,
         greatest: Job::LANES,
@@ -53,8 +46,6 @@ impl Terms {
     };
 
     const CLOSED: Terms = Terms {
-        from: 10,
-        to: 16,
         room: Job::NODES,
         least: 1,
         greatest: Job::NODES,
@@ -62,8 +53,6 @@ impl Terms {
     };
 
     const CARRIERS: Terms = Terms {
-        from: 16,
-        to: 24,
         room: Job::MOVE_NUMBERS,
         least: 0,
         greatest: Job::CARRIERS,
@@ -71,8 +60,6 @@ impl Terms {
     };
 
     const DWELL: Terms = Terms {
-        from: 29,
-        to: 34,
         room: 0,
         least: 1,
         greatest: Job::DWELL,
@@ -80,14 +67,18 @@ impl Terms {
     };
 }
 
-// The line of a section's word and its count. A function cannot hand out a byte string, so the words stand
-// here one behind the other, and a section has the letters from `from` to `to`.
-fn counted(text: &[u8], here: Cursor, from: usize, to: usize) -> Option<(u16, Cursor)>
-    requires { (from ≤ to) × (to ≤ length words) }
-    ensures { Counting text.now (word_from from to) here result }
+// The word of a section.
+fn word_of(which: Sections) -> &'static [u8]
+    ensures { result.now ≡ (in_form which).word }
 {
-    let words: &[u8] = b"NODESLANESCLOSEDCARRIERSORDERDWELL";
-    here.count(text, &words[from..to])
+    match which {
+        Sections::Nodes => b"NODES",
+        Sections::Listed(Entries::Lanes) => b"LANES",
+        Sections::Listed(Entries::Closed) => b"CLOSED",
+        Sections::Listed(Entries::Moves) => b"CARRIERS",
+        Sections::Listed(Entries::Places) => b"ORDER",
+        Sections::Dwell => b"DWELL",
+    }
 }
 
 // The terms of a section, by the carriers so far: the order has as many places.
@@ -100,8 +91,6 @@ fn terms_of(which: Sections, carriers: usize) -> Terms
         Sections::Listed(Entries::Closed) => Terms::CLOSED,
         Sections::Listed(Entries::Moves) => Terms::CARRIERS,
         Sections::Listed(Entries::Places) => Terms {
-            from: 24,
-            to: 29,
             room: Job::CARRIERS,
             least: carriers,
             greatest: carriers,
@@ -146,7 +135,7 @@ pub(crate) fn section(
 {
     let terms = terms_of(which, before.carriers);
     fill_first(table, terms.room, 0);
-    let Some((number, next)) = counted(text, here, terms.from, terms.to) else {
+    let Some((number, next)) = here.count(text, word_of(which)) else {
         if terms.optional {
             return Ok((before, here));
         }

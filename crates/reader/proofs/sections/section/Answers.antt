@@ -2,29 +2,26 @@
 -- all, or its entries follow. Each answer is one law of SectionSteps.antt.
 use Rattle.std.proofs.Common.{inl, inr}
 use Rattle.std.proofs.lemmas.Result.{err_from_is_err_and}
-use Rattle.reader.proofs.SectionSteps.{word_there, step_missing, step_lacks, step_unfit}
+use Rattle.reader.proofs.SectionSteps.{step_missing, step_lacks, step_unfit}
 use Rattle.reader.proofs.SectionSteps.{step_counted, entries_ready, step_stops, step_entries}
 use Rattle.reader.proofs.sections.section.Goals.{then-count-terms-via-then-count-terms}
 use Rattle.reader.proofs.sections.section.Goals.{then-count-terms-via-else-count-terms+then-terms-count}
 use Rattle.reader.proofs.sections.section.Goals as goal
 
-pub counted-requires : goal.counted-requires
-counted-requires c = word_there c.args.which c.args.before.carriers _ c.terms_of-terms.ensures
-
 pub returns-then-terms : goal.returns-then-terms
 returns-then-terms c =
     step_missing _ _ _ _ _ _ _ _ c.terms_of-terms.ensures c.fill_first.ensures c.requires.1 _
-    c.counted.ensures c.in_default.is c.if-terms.true
+    c.word_of.ensures _ c.count.ensures c.in_default.is c.if-terms.true
 
 pub returns-in_default : goal.returns-in_default
 returns-in_default c =
     step_lacks _ _ _ _ _ _ _ _ c.terms_of-terms.ensures c.fill_first.ensures c.requires.1 _
-    c.counted.ensures c.in_default.is c.if-terms.false _ c.new.ensures
+    c.word_of.ensures _ c.count.ensures c.in_default.is c.if-terms.false _ c.new.ensures
 
 pub returns-then-count-terms : goal.returns-then-count-terms
 returns-then-count-terms c =
     step_unfit _ _ _ _ _ _ _ _ c.terms_of-terms.ensures c.fill_first.ensures c.requires.1 _
-    c.counted.ensures _ _ c.in-Some.is _ c.new-then-count-terms.ensures
+    c.word_of.ensures _ c.count.ensures _ _ c.in-Some.is _ c.new-then-count-terms.ensures
     (elim c.then-count-terms.branch [
       | then-count-terms-via-then-count-terms w ↦ inl w.if-count-terms.true
       | then-count-terms-via-else-count-terms+then-terms-count w ↦ inr w.if-terms-count.true
@@ -33,13 +30,13 @@ returns-then-count-terms c =
 pub returns-in_default-which : goal.returns-in_default-which
 returns-in_default-which c =
     step_counted _ _ _ _ _ _ _ _ c.terms_of-terms.ensures c.fill_first.ensures c.requires.1 _
-    c.counted.ensures _ _ c.in-Some.is c.if-count-terms.false c.if-terms-count.false _ c.with_count-job.ensures
+    c.word_of.ensures _ c.count.ensures _ _ c.in-Some.is c.if-count-terms.false c.if-terms-count.false _ c.with_count-job.ensures
     c.in_default-which.not-Listed
 
 pub entry_lines-requires : goal.entry_lines-requires
 entry_lines-requires c =
     entries_ready _ _ _ _ _ _ _ _ c.terms_of-terms.ensures c.fill_first.ensures c.requires.1 _
-    c.counted.ensures _ _ c.in-Some.is c.if-count-terms.false c.if-terms-count.false _ c.with_count-job.ensures
+    c.word_of.ensures _ c.count.ensures _ _ c.in-Some.is c.if-count-terms.false c.if-terms-count.false _ c.with_count-job.ensures
     _ c.in-Listed.is c.requires.0 c.fill_first.auto.list
 
 pub returns-in_err-behind : goal.returns-in_err-behind
@@ -47,11 +44,11 @@ returns-in_err-behind c =
     let p = err_from_is_err_and c.from_residual.result c.from_residual.ensures.1 in
     rw (p.1, p.2)
     (step_stops _ _ _ _ _ _ _ _ c.terms_of-terms.ensures c.fill_first.ensures c.requires.1 _
-    c.counted.ensures _ _ c.in-Some.is c.if-count-terms.false c.if-terms-count.false _ c.with_count-job.ensures
+    c.word_of.ensures _ c.count.ensures _ _ c.in-Some.is c.if-count-terms.false c.if-terms-count.false _ c.with_count-job.ensures
     _ c.in-Listed.is c.requires.0 _ _ c.in_err-behind.ensures)
 
 pub returns : goal.returns
 returns c =
     step_entries _ _ _ _ _ _ _ _ c.terms_of-terms.ensures c.fill_first.ensures c.requires.1 _
-    c.counted.ensures _ _ c.in-Some.is c.if-count-terms.false c.if-terms-count.false _ c.with_count-job.ensures
+    c.word_of.ensures _ c.count.ensures _ _ c.in-Some.is c.if-count-terms.false c.if-terms-count.false _ c.with_count-job.ensures
     _ c.in-Listed.is c.requires.0 _ c.entry_lines.auto.table _ c.in_ok-behind.ensures
