@@ -3,12 +3,13 @@
 -- shortest walk leads there. So where lanes are left to go, the lowest-numbered such neighbour exists and is
 -- what `next_node` answers. Assumes nothing.
 use mathlib.Core.Path.{◌≡◌, refl, subst}
-use mathlib.Core.Logic.{◌⊎◌, inl, inr, ◌≢◌}
+use mathlib.Core.Logic.{◌≢◌}
 use mathlib.Core.List.{List}
 use Prim.Native.Nat.{ℕ, zero, suc, ◌≤◌, ◌<◌}
 use native.Mathlib.Nat.{le_of_suc-le-suc}
 use native.Mathlib.Omega.{arith}
 use lib.ListN.{get_or}
+use Rattle.std.specs.Prelude.{Option, Some, None as Nothing}
 use Rattle.hall.specs.Limits.{no_walk_mark}
 use Rattle.hall.specs.Floor.{Floor, Walk, here, step, Dist, distance, Lane, Network, floor}
 use Rattle.hall.proofs.Walks.{begins_on_node, dist_symmetric, distance_unique, true_distance, distance_small}
@@ -53,25 +54,19 @@ module _ {N : Network} {s g : ℕ} {row : List ℕ} (down : Downhill N s g row) 
 
   module _ {u m : ℕ} (small : m ≤ 1023) where
     -- a neighbour with m lanes to go is in the row as such
-    pub next_of : (v : ℕ) → Lane N.lanes u v → Dist (floor N) v g m → Next N.nodes N.lanes row u m v
+    pub next_of : (v : ℕ) → Lane N.lanes u v → Dist (floor N) v g m → Next N.lanes row u m v
     next_of v l h =
         let on : v < N.nodes = (begins_on_node h.walk).numbered in
         let back = distance small (dist_symmetric (lanes_symmetric N) h) in
-        record { numbered = on; lane = l; at_distance = distance_unique (down.distances v on) back }
+        record { numbered = omega (arith, down.size, on); lane = l; at_distance = distance_unique (down.distances v on) back }
 
-    pub next_distance : {v : ℕ} → Next N.nodes N.lanes row u m v → Dist (floor N) v g m
+    pub next_distance : {v : ℕ} → Next N.lanes row u m v → Dist (floor N) v g m
     next_distance {v} n =
         subst (λ (d : ℕ). Dist (floor N) v g d) n.at_distance
-        (row_distance v n.numbered (λ e. omega (arith, n.at_distance)))
+        (row_distance v (omega (arith, down.size, n.numbered)) (λ e. omega (arith, n.at_distance)))
 
-    -- what `next_node` answers is such a neighbour
-    pub next_found : {v : ℕ} → Dist (floor N) u g (suc m) → LowestNext N.nodes N.lanes row u m v
-        → Next N.nodes N.lanes row u m v
-    next_found {v} h n = cases n.is_next
-      where
-        cases : (v ≡ no_walk_mark) ⊎ Next N.nodes N.lanes row u m v → Next N.nodes N.lanes row u m v
-        cases (inr x) = x
-        cases (inl e) =
-            let b = first_lane h in
-            let x = next_of b.0 b.1 b.2 in
-            absurd (let y : ⊥ = omega (arith, n.lowest b.0 x, x.numbered, down.few) in y)
+    -- `next_node` answers such a neighbour, since there is one
+    pub next_found : (r : Option ℕ) → Dist (floor N) u g (suc m) → LowestNext N.lanes row u m r
+        → (v : ℕ) × (r ≡ Some v) × Next N.lanes row u m v
+    next_found (Some v) h n = (v, refl, n.is_next v refl)
+    next_found Nothing h n = let b = first_lane h in absurd (n.lowest b.0 (next_of b.0 b.1 b.2))

@@ -12,6 +12,7 @@ use native.Mathlib.Decide.{dec_le, dec_lt}
 use native.Mathlib.Omega.{arith}
 use lib.ListN.{length, get_or, set, take, length-set}
 use lib.Seq.{get_or-set_same, get_or-set_other, get_or-take, length-take-le}
+use Rattle.std.specs.Prelude.{Option, Some, IsSome}
 use Rattle.hall.specs.Limits.{node_limit}
 use Rattle.hall.specs.Floor.{Floor, Dist, Network, floor}
 use Rattle.hall.specs.Path.{PathOf}
@@ -81,15 +82,23 @@ module _ {N : Network} {s g d : ℕ} {path₀ : List ℕ} {u left at : ℕ} {pat
   pub next_place : u ≢ g → at + 1 < length path
   next_place away = omega (arith, some_left away, l.adds, l.small, l.size, l.room)
 
+  -- and there is a next node
+  pub next_there : {row : List ℕ} (r : Option ℕ) {m : ℕ} → Downhill N s g row → m + 1 ≡ left
+      → LowestNext N.lanes row u m r → IsSome r
+  next_there r {m} down one_less n =
+      let e : left ≡ suc m = omega arith in
+      let found = next_found down (omega (arith, l.adds, l.small)) r (rw e at distance_left) n in
+      rw found.1 refl
+
   -- ---- one step more
 
   module _ {row : List ℕ} (down : Downhill N s g row) {m v : ℕ} (one_less : m + 1 ≡ left)
-      (n : LowestNext N.nodes N.lanes row u m v) where
+      (n : LowestNext N.lanes row u m (Some v)) where
     few_left : m ≤ 1023
     few_left = omega (arith, l.adds, l.small)
 
-    next : Next N.nodes N.lanes row u m v
-    next = next_found down few_left (let e : left ≡ suc m = omega arith in rw e at distance_left) n
+    next : Next N.lanes row u m v
+    next = n.is_next v refl
 
     rest : d - (at + 1) ≡ m
     rest = omega (arith, l.adds)

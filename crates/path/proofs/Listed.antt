@@ -4,17 +4,19 @@
 -- is open; a node of a path has such a distance, since the rest of the path is a walk to the goal. The terms
 -- can be decided, so that a list without a fault is a shortest path. Assumes nothing.
 --     Four       the terms of `Walks` by themselves, each of which can be decided
---     Walking    the list as a loop goes over it: its first k steps follow lanes
 use mathlib.Core.Path.{◌≡◌, ◌∙◌, ap}
 use mathlib.Core.Logic.{◌⊎◌, inl, inr}
+use mathlib.Core.Bool.{Bool, true, false}
 use mathlib.Core.List.{List, [], ◌∷◌}
 use Prim.Native.Nat.{ℕ, ◌+◌, ◌-◌, ◌<◌}
 use native.Mathlib.Decide.{ℕ_discrete, dec_lt, map_dec}
 use native.Mathlib.Omega.{arith}
-use borrow.Author.Count.{below_more}
 use lib.ListN.{length, get_or}
 use Rattle.hall.specs.declared.Refusal.{Refusal}
-use Rattle.std.specs.Prelude.{Result, Err}
+use Rattle.std.specs.Prelude.{Result, Err, Some}
+use Rattle.std.specs.List.{slice_get}
+use Rattle.std.proofs.lemmas.Option.{slice_get_within, get_or_from_slice_get}
+use Rattle.hall.specs.Rule.{Answers}
 use Rattle.hall.specs.declared.Fault.TheVariants.{Unreachable, NotShortest}
 use Rattle.hall.specs.Floor.{Dist, NoWalk, Lane, Network, Open, floor}
 use Rattle.hall.specs.Path.{PathOf, ShortestPath}
@@ -67,30 +69,19 @@ module _ (lanes : List ℕ) (s g : ℕ) (list : List ℕ) where
       (dec_and (ℕ_discrete (get_or list (length list - 1) 0) g)
       (dec_all (λ k. lane? lanes (get_or list k 0) (get_or list (k + 1) 0)) (length list - 1))))
 
--- ---- a list as the loop goes over it
+-- ---- the terms as they are tested: the first number, the last, and each number with the next
 
-pub record Walking (lanes : List ℕ) (s g : ℕ) (list : List ℕ) (k : ℕ) : Type 0 where
-  pub begins : get_or list 0 0 ≡ s
-  pub ends : get_or list (length list - 1) 0 ≡ g
-  pub joins : (i : ℕ) → i < k → Lane lanes (get_or list i 0) (get_or list (i + 1) 0)
-
-pub walking_none : {lanes : List ℕ} {s g : ℕ} (list : List ℕ) →
-    get_or list 0 0 ≡ s → get_or list (length list - 1) 0 ≡ g → Walking lanes s g list 0
-walking_none list b e =
-    record { begins = b; ends = e; joins = λ i l. absurd (let x : ⊥ = omega arith in x) }
-
-module _ {lanes : List ℕ} {s g : ℕ} {list : List ℕ} {k : ℕ} (w : Walking lanes s g list k) where
-  pub walking_lane : Lane lanes (get_or list k 0) (get_or list (k + 1) 0) → Walking lanes s g list (k + 1)
-  walking_lane l = record { begins = w.begins; ends = w.ends; joins = below_more _ _ w.joins l }
-
-  pub walking_all : k + 1 ≡ length list → Walks lanes s g list
-  walking_all e =
-      record {
-        some = omega arith;
-        begins = w.begins;
-        ends = w.ends;
-        joins = λ i l. w.joins i (omega arith);
-      }
+pub walks_told : (lanes list : List ℕ) {s g : ℕ} → slice_get list 0 ≡ Some s
+    → slice_get list (length list - 1) ≡ Some g → (r : Bool)
+    → Answers r ((k : ℕ) → k + 1 < length list → Lane lanes (get_or list k 0) (get_or list (k + 1) 0))
+    → Answers r (Walks lanes s g list)
+walks_told lanes list {s} {g} first last true joins = record {
+  some = slice_get_within list 0 s first;
+  begins = get_or_from_slice_get list 0 s 0 first;
+  ends = get_or_from_slice_get list (length list - 1) g 0 last;
+  joins = joins;
+}
+walks_told lanes list first last false apart = λ w. apart w.joins
 
 -- ---- walks and paths
 
@@ -145,17 +136,18 @@ module _ (N : Network) (s g : ℕ) (list : List ℕ) where
 
   module _ {row : List ℕ} (down : Downhill N s g row) where
     -- a node with a walk to the goal is open
-    stands_on_open : AllOnWay N.nodes row list → OnOpen
+    stands_on_open : AllOnWay row list → OnOpen
     stands_on_open stands k l =
-        begins_on_node (row_distance down (get_or list k 0) (stands k l).numbered (stands k l).reached).walk
+        begins_on_node
+        (row_distance down (get_or list k 0) (omega (arith, down.size, (stands k l).numbered)) (stands k l).reached).walk
 
     -- and a node of a path has such a walk, the rest of the path
-    path_stands : {d : ℕ} → PathOf (floor N) s g d list → AllOnWay N.nodes row list
+    path_stands : {d : ℕ} → PathOf (floor N) s g d list → AllOnWay row list
     path_stands {d} p k l =
         let on = (path_open p k l).numbered in
         let rest = to_goal p k (omega (arith, p.size)) in
         record {
-          numbered = on;
+          numbered = omega (arith, down.size, on);
           reached = λ e.
               marked_none (down.distances (get_or list k 0) on) e (d - k) (reverse (lanes_symmetric N) rest);
         }
@@ -168,7 +160,7 @@ module _ (N : Network) (s g : ℕ) (list : List ℕ) where
       (none_asked (none_split (move_ends N s g) (asked Unreachable 0 (NoWalk (floor N) s g) ∷ []) none).1).0
 
   module _ (none : None (move_question N s g)) {row : List ℕ} (down : Downhill N s g row) where
-    pub list_passes : length list ≡ get_or row s 0 + 1 → AllOnWay N.nodes row list
+    pub list_passes : length list ≡ get_or row s 0 + 1 → AllOnWay row list
         → Walks N.lanes s g list
         → None (list_of_move N s g (Unfit N s g list))
     list_passes size stands w =
@@ -178,12 +170,12 @@ module _ (N : Network) (s g : ℕ) (list : List ℕ) where
     -- a list that lacks one of the terms: it has another length, stands on a node without a walk to the goal
     -- or does not lead there
     pub list_unfit :
-        ¬ ((length list ≡ get_or row s 0 + 1) × AllOnWay N.nodes row list × Walks N.lanes s g list)
+        ¬ ((length list ≡ get_or row s 0 + 1) × AllOnWay row list × Walks N.lanes s g list)
         → First (list_of_move N s g (Unfit N s g list)) (number_of NotShortest) 0
     list_unfit h = first_after none (asked_here (λ p. h (terms p)))
       where
         terms : ShortestPath (floor N) s g list
-            → (length list ≡ get_or row s 0 + 1) × AllOnWay N.nodes row list × Walks N.lanes s g list
+            → (length list ≡ get_or row s 0 + 1) × AllOnWay row list × Walks N.lanes s g list
         terms p =
             (shortest_size (start_distance down) p, path_stands down p.is_path, path_walks p.is_path)
 

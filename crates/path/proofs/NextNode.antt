@@ -1,36 +1,33 @@
 -- The lowest-numbered neighbour at a distance, over the list of lanes. Each lane is looked at in both
--- directions; the best so far only falls, is a neighbour of u at the wanted distance once it is not the mark,
--- and is not above any such neighbour to which a lane before place i leads. Assumes nothing.
+-- directions; the best so far only falls, is a neighbour of u at the wanted distance once there is one, and is
+-- not above any such neighbour to which a lane before place i leads. Assumes nothing.
 --     Seeking    where the loop over the lanes stands before place i of the lane list
-use mathlib.Core.Path.{◌≡◌, refl}
-use mathlib.Core.Logic.{◌⊎◌, inl, inr}
+use mathlib.Core.Path.{◌≡◌, refl, sym, ◌∙◌}
 use mathlib.Core.List.{List}
 use Prim.Native.Nat.{ℕ, ◌+◌, ◌*◌, ◌%◌, ◌≤◌, ◌<◌}
+use native.Mathlib.Decide.{dec_le}
 use native.Mathlib.Omega.{arith}
 use lib.ListN.{length, get_or}
-use Rattle.hall.specs.Limits.{no_walk_mark}
+use Rattle.std.specs.Prelude.{Option, Some, None as Nothing, min}
+use Rattle.std.proofs.lemmas.Option.{same_Some, none-some}
 use Rattle.hall.specs.Floor.{Lane}
 use Rattle.hall.proofs.LaneList.{LaneBefore, earlier, forth, back, lane_at, lane_back_at, lane_before}
-use Rattle.path.specs.Steps.{Next, Nearer, kept, taken, LowestNext}
+use Rattle.path.specs.Steps.{Next, Leads, lower_of, Nearer, kept, taken, AtMost, LowestNext}
 
-pub record Seeking (nodes : ℕ) (lanes row : List ℕ) (u wanted i best : ℕ) : Type 0 where
-  -- i stands at the first number of a lane
-  pub even : i % 2 ≡ 0
-  -- the best so far is a neighbour at the wanted distance, if there was one
-  pub is_next : (best ≡ no_walk_mark) ⊎ Next nodes lanes row u wanted best
+pub record Seeking (lanes row : List ℕ) (u wanted i : ℕ) (best : Option ℕ) : Type 0 where
+  -- the best so far is a neighbour at the wanted distance
+  pub is_next : (v : ℕ) → best ≡ Some v → Next lanes row u wanted v
   -- and no lane before i leads to a lower one
-  pub lowest : (v : ℕ) → (n : Next nodes lanes row u wanted v) → 2 * n.lane.k < i → best ≤ v
+  pub lowest : (v : ℕ) → (n : Next lanes row u wanted v) → 2 * n.lane.k < i → AtMost best v
 
-pub seeking_none : (nodes : ℕ) (lanes row : List ℕ) (u wanted : ℕ)
-    → Seeking nodes lanes row u wanted 0 no_walk_mark
-seeking_none nodes lanes row u wanted = record {
-  even = refl;
-  is_next = inl refl;
+pub seeking_none : (lanes row : List ℕ) (u wanted : ℕ) → Seeking lanes row u wanted 0 Nothing
+seeking_none lanes row u wanted = record {
+  is_next = λ v e. absurd (none-some v e);
   lowest = λ v n l. absurd (let x : ⊥ = omega arith in x);
 }
 
-pub seeking_all : {nodes : ℕ} {lanes row : List ℕ} {u wanted i best : ℕ} →
-    Seeking nodes lanes row u wanted i best → length lanes ≤ i + 1 → LowestNext nodes lanes row u wanted best
+pub seeking_all : {lanes row : List ℕ} {u wanted i : ℕ} {best : Option ℕ} →
+    Seeking lanes row u wanted i best → length lanes ≤ i + 1 → LowestNext lanes row u wanted best
 seeking_all s all = record {
   is_next = s.is_next;
   lowest = λ v n. s.lowest v n (omega (arith, n.lane.inside));
@@ -38,38 +35,70 @@ seeking_all s all = record {
 
 -- ---- one end of a lane
 
-module _ {nodes : ℕ} {row : List ℕ} {u a b wanted best r : ℕ} where
-  never_rises : Nearer nodes row u a b wanted best r → r ≤ best
-  never_rises (kept f e) = omega arith
-  never_rises (taken x l w h e) = omega arith
+falls : (best : Option ℕ) (b w : ℕ) → AtMost best w → lower_of best b ≤ w
+falls (Some v) b w h = omega arith
+falls Nothing b w h = absurd h
 
-  not_above_end : Nearer nodes row u a b wanted best r → a ≡ u → b < nodes → get_or row b 0 ≡ wanted → r ≤ b
-  not_above_end (kept f e) x l w = omega (arith, f x l w)
-  not_above_end (taken x l w h e) y m z = omega arith
+below_end : (best : Option ℕ) (b : ℕ) → lower_of best b ≤ b
+below_end (Some v) b = omega arith
+below_end Nothing b = omega arith
 
-module _ {nodes : ℕ} {lanes row : List ℕ} {u a b wanted best r : ℕ} where
-  still_next : (a ≡ u → Lane lanes u b) → (best ≡ no_walk_mark) ⊎ Next nodes lanes row u wanted best
-      → Nearer nodes row u a b wanted best r → (r ≡ no_walk_mark) ⊎ Next nodes lanes row u wanted r
-  still_next lane s (kept f e) = rw e s
-  still_next lane s (taken x l w h e) = inr (rw e (record { numbered = l; lane = lane x; at_distance = w }))
+module _ {row : List ℕ} {u a b wanted : ℕ} {best r : Option ℕ} where
+  never_rises : Nearer row u a b wanted best r → (w : ℕ) → AtMost best w → AtMost r w
+  never_rises (kept f e) w h = rw e h
+  never_rises (taken x e) w h = rw e (falls best b w h)
+
+  not_above_end : Nearer row u a b wanted best r → Leads row u a b wanted → AtMost r b
+  not_above_end (kept f e) x = absurd (f x)
+  not_above_end (taken y e) x = rw e (below_end best b)
+
+module _ {lanes row : List ℕ} {u a b wanted : ℕ} (lane : a ≡ u → Lane lanes u b) where
+  lower_next : (best : Option ℕ) → ((v : ℕ) → best ≡ Some v → Next lanes row u wanted v)
+      → Leads row u a b wanted → Next lanes row u wanted (lower_of best b)
+  lower_next (Some v) next x = side (dec_le v b)
+    where
+      side : Dec (v ≤ b) → Next lanes row u wanted (min v b)
+      side (yes h) = let e : min v b ≡ v = omega arith in rw e (next v refl)
+      side (no h) =
+          let e : min v b ≡ b = omega arith in
+          rw e (record { numbered = x.numbered; lane = lane x.from_here; at_distance = x.at_distance })
+  lower_next Nothing next x =
+      record { numbered = x.numbered; lane = lane x.from_here; at_distance = x.at_distance }
+
+  still_next : {best r : Option ℕ} → ((v : ℕ) → best ≡ Some v → Next lanes row u wanted v)
+      → Nearer row u a b wanted best r → (v : ℕ) → r ≡ Some v → Next lanes row u wanted v
+  still_next next (kept f e) v is = next v (sym e ∙ is)
+  still_next {best} next (taken x e) v is = rw (same_Some _ _ (sym e ∙ is)) at (lower_next best next x)
 
 -- ---- a lane in both directions
 
-pub seeking_lane : {nodes : ℕ} {lanes row : List ℕ} {u wanted i best₁ best₂ best₃ : ℕ} →
-    i + 1 < length lanes → Seeking nodes lanes row u wanted i best₁
-    → Nearer nodes row u (get_or lanes i 0) (get_or lanes (i + 1) 0) wanted best₁ best₂
-    → Nearer nodes row u (get_or lanes (i + 1) 0) (get_or lanes i 0) wanted best₂ best₃
-    → Seeking nodes lanes row u wanted (i + 2) best₃
-seeking_lane {nodes} {lanes} {row} {u} {wanted} {i} {best₁} {best₂} {best₃} inside s x y = record {
-  even = omega (arith, s.even);
+pub seeking_lane : {lanes row : List ℕ} {u wanted i a b : ℕ} {best₁ best₂ best₃ : Option ℕ} →
+    i % 2 ≡ 0 → i + 1 < length lanes → get_or lanes i 0 ≡ a → get_or lanes (i + 1) 0 ≡ b
+    → Seeking lanes row u wanted i best₁
+    → Nearer row u a b wanted best₁ best₂
+    → Nearer row u b a wanted best₂ best₃
+    → Seeking lanes row u wanted (i + 2) best₃
+seeking_lane {lanes} {row} {u} {wanted} {i} {a} {b} {best₁} {best₂} {best₃} even inside first second s x y = record {
   is_next =
-      still_next (λ e. lane_back_at lanes i s.even inside refl e)
-      (still_next (λ e. lane_at lanes i s.even inside e refl) s.is_next x) y;
-  lowest = λ v n l. cases v n (lane_before lanes i s.even n.lane l);
+      still_next (λ e. lane_back_at lanes i even inside first (second ∙ e))
+      (still_next (λ e. lane_at lanes i even inside (first ∙ e) second) s.is_next x) y;
+  lowest = λ v n l. cases v n (lane_before lanes i even n.lane l);
 }
   where
-    cases : (v : ℕ) → (n : Next nodes lanes row u wanted v) → LaneBefore lanes u v i n.lane.k → best₃ ≤ v
-    cases v n (earlier l) = omega (arith, s.lowest v n l, never_rises x, never_rises y)
-    cases v n (forth a b) =
-        omega (arith, never_rises y, b, not_above_end x a (rw b n.numbered) (rw b n.at_distance))
-    cases v n (back a b) = omega (arith, a, not_above_end y b (rw a n.numbered) (rw a n.at_distance))
+    cases : (v : ℕ) → (n : Next lanes row u wanted v) → LaneBefore lanes u v i n.lane.k → AtMost best₃ v
+    cases v n (earlier l) = never_rises y v (never_rises x v (s.lowest v n l))
+    cases v n (forth p q) =
+        never_rises y v
+        (let e : b ≡ v = sym second ∙ q in
+        rw e at (not_above_end x (record {
+          from_here = sym first ∙ p;
+          numbered = rw e n.numbered;
+          at_distance = rw e n.at_distance;
+        })))
+    cases v n (back p q) =
+        let e : a ≡ v = sym first ∙ p in
+        rw e at (not_above_end y (record {
+          from_here = sym second ∙ q;
+          numbered = rw e n.numbered;
+          at_distance = rw e n.at_distance;
+        }))

@@ -7,7 +7,8 @@ use mathlib.Core.Bool.{Bool}
 use mathlib.Core.List.{List}
 use Prim.Native.Nat.{ℕ, ◌<◌}
 use native.Mathlib.Omega.{arith}
-use lib.ListN.{length, get_or}
+use lib.ListN.{length, get_or, take}
+use lib.Seq.{get_or-take, length-take-le}
 use Rattle.hall.specs.declared.Fault.TheVariants.{Unreachable}
 use Rattle.std.specs.Prelude.{Ok, Err}
 use Rattle.hall.specs.Limits.{node_limit, no_walk_mark}
@@ -55,13 +56,17 @@ module _ (N : Network) (s g : ℕ) (sound : None (move_ends N s g)) where
     pub walk_there : length row ≡ node_limit → get_or left s 0 ≢ no_walk_mark → MoveReached N s g (Ok left)
     walk_there size h =
         let there = (start_distance down).walk in
-        (none_append sound (asked_clear (λ none. none (get_or left s 0) there) none_at_all), down)
+        (none_append sound (asked_clear (λ none. none (get_or (take N.nodes left) s 0) there) none_at_all), down)
       where
-        down : Downhill N s g left
+        -- each node has its place in the part of the row that has as many places
+        as_filled : (v : ℕ) → v < N.nodes → get_or (take N.nodes left) v 0 ≡ get_or left v 0
+        as_filled v l = get_or-take N.nodes left v 0 l
+
+        down : Downhill N s g (take N.nodes left)
         down = record {
           few = facts.few_nodes;
-          wide = omega (arith, facts.few_nodes, filled.size);
-          distances = filled.holds;
+          size = length-take-le N.nodes left (omega (arith, facts.few_nodes, filled.size));
+          distances = λ v l. rw (as_filled v l) (filled.holds v l);
           numbered = facts.start_open.numbered;
-          reached = h;
+          reached = rw (as_filled s facts.start_open.numbered) h;
         }

@@ -1,11 +1,14 @@
 -- The steps inside the questions about paths. No public promise speaks of them: the functions of this crate
 -- promise them to each other. N is the network, s and g are the move's start and goal.
---     Downhill       a row with the distance of every node to the goal, and the start is reached
+--     Downhill       a row with the distance of every node to the goal, and no place more; the start is reached
 --     MoveReached    what the checks of a move without a list answer: 2, 3, 12, 4, 5, 13, 8; where none holds,
---                    a downhill row
+--                    a row that is downhill as far as there are nodes
 --     Next           node v is a neighbour of u, at the wanted distance
---     Nearer         one end of a lane was looked at: node b was taken for the best so far, or not
---     LowestNext     the lowest-numbered neighbour at the wanted distance, or the mark if there is none
+--     Leads          one end of a lane leads from u to a node b at the wanted distance
+--     lower_of       the lower of the best so far, if there is one, and a node
+--     Nearer         one end of a lane was looked at: where it leads, b is taken if it is lower than the best so far
+--     AtMost         there is a best, and it is at most the node
+--     LowestNext     the lowest-numbered neighbour at the wanted distance, or nothing if there is none
 --     Laid           the first places of the list are the house path, and the others are as they came
 --     Walks          the list leads from start to goal, whatever its length: its first number is the start,
 --                    its last the goal, and lanes lead from each to the next, whether its nodes are open or
@@ -13,7 +16,8 @@
 --     OnWay          the number v is a node, and the row has a distance there: it is open and has a walk to
 --                    the goal
 --     AllOnWay       every number of the list is such a node
-use Rattle.std.specs.Prelude.{◌≡◌, ◌⊎◌, ◌≢◌, List, ℕ, ◌+◌, ◌-◌, ◌≤◌, ◌<◌, length, get_or, take, Result, Ok, Err}
+use Rattle.std.specs.Prelude.{◌≡◌, ◌≢◌, List, ℕ, ◌+◌, ◌-◌, ◌≤◌, ◌<◌, min, length, get_or, take}
+use Rattle.std.specs.Prelude.{Result, Ok, Err, Option, Some, None as Nothing}
 use Rattle.hall.specs.declared.Refusal.{Refusal}
 use Rattle.hall.specs.Limits.{node_limit, no_walk_mark}
 use Rattle.hall.specs.Floor.{DistanceIs, Lane, Network, floor}
@@ -24,28 +28,40 @@ use Rattle.hall.specs.Questions.{move_question}
 
 pub record Downhill (N : Network) (s g : ℕ) (row : List ℕ) : Type 0 where
   pub few : N.nodes ≤ node_limit
-  pub wide : N.nodes ≤ length row
+  pub size : length row ≡ N.nodes
   pub distances : (v : ℕ) → v < N.nodes → DistanceIs (floor N) g v (get_or row v 0)
   pub numbered : s < N.nodes
   pub reached : get_or row s 0 ≢ no_walk_mark
 
 abbrev pub MoveReached : (N : Network) (s g : ℕ) → Result (List ℕ) Refusal → Type 0
-MoveReached N s g (Ok row) = None (move_question N s g) × Downhill N s g row
+MoveReached N s g (Ok row) = None (move_question N s g) × Downhill N s g (take N.nodes row)
 MoveReached N s g (Err r) = First (move_question N s g) (number_of r.fault) r.place
 
-pub record Next (nodes : ℕ) (lanes row : List ℕ) (u wanted v : ℕ) : Type 0 where
-  pub numbered : v < nodes
+pub record Next (lanes row : List ℕ) (u wanted v : ℕ) : Type 0 where
+  pub numbered : v < length row
   pub lane : Lane lanes u v
   pub at_distance : get_or row v 0 ≡ wanted
 
-pub data Nearer (nodes : ℕ) (row : List ℕ) (u a b wanted best r : ℕ) : Type 0 where
-  kept : (a ≡ u → b < nodes → get_or row b 0 ≡ wanted → best ≤ b) → r ≡ best
-      → Nearer nodes row u a b wanted best r
-  taken : a ≡ u → b < nodes → get_or row b 0 ≡ wanted → b ≤ best → r ≡ b → Nearer nodes row u a b wanted best r
+pub record Leads (row : List ℕ) (u a b wanted : ℕ) : Type 0 where
+  pub from_here : a ≡ u
+  pub numbered : b < length row
+  pub at_distance : get_or row b 0 ≡ wanted
 
-pub record LowestNext (nodes : ℕ) (lanes row : List ℕ) (u wanted r : ℕ) : Type 0 where
-  pub is_next : (r ≡ no_walk_mark) ⊎ Next nodes lanes row u wanted r
-  pub lowest : (v : ℕ) → Next nodes lanes row u wanted v → r ≤ v
+abbrev pub lower_of : Option ℕ → ℕ → ℕ
+lower_of (Some v) b = min v b
+lower_of Nothing b = b
+
+pub data Nearer (row : List ℕ) (u a b wanted : ℕ) (best r : Option ℕ) : Type 0 where
+  kept : ¬ Leads row u a b wanted → r ≡ best → Nearer row u a b wanted best r
+  taken : Leads row u a b wanted → r ≡ Some (lower_of best b) → Nearer row u a b wanted best r
+
+abbrev pub AtMost : Option ℕ → ℕ → Type 0
+AtMost (Some v) w = v ≤ w
+AtMost Nothing w = ⊥
+
+pub record LowestNext (lanes row : List ℕ) (u wanted : ℕ) (r : Option ℕ) : Type 0 where
+  pub is_next : (v : ℕ) → r ≡ Some v → Next lanes row u wanted v
+  pub lowest : (v : ℕ) → Next lanes row u wanted v → AtMost r v
 
 pub record Laid (N : Network) (s g : ℕ) (path path' : List ℕ) (count : ℕ) : Type 0 where
   pub d : ℕ
@@ -61,9 +77,9 @@ pub record Walks (lanes : List ℕ) (s g : ℕ) (list : List ℕ) : Type 0 where
   pub ends : get_or list (length list - 1) 0 ≡ g
   pub joins : (k : ℕ) → k + 1 < length list → Lane lanes (get_or list k 0) (get_or list (k + 1) 0)
 
-pub record OnWay (nodes : ℕ) (row : List ℕ) (v : ℕ) : Type 0 where
-  pub numbered : v < nodes
+pub record OnWay (row : List ℕ) (v : ℕ) : Type 0 where
+  pub numbered : v < length row
   pub reached : get_or row v 0 ≢ no_walk_mark
 
-abbrev pub AllOnWay : (nodes : ℕ) (row list : List ℕ) → Type 0
-AllOnWay nodes row list = (k : ℕ) → k < length list → OnWay nodes row (get_or list k 0)
+abbrev pub AllOnWay : (row list : List ℕ) → Type 0
+AllOnWay row list = (k : ℕ) → k < length list → OnWay row (get_or list k 0)

@@ -33,69 +33,49 @@ fn check_reached(network: &Network, ends: Ends) -> Result<[u16; Job::NODES], Ref
 }
 
 // One end of a lane, seen from node u: if the lane leads from u to a node b at the wanted distance, the lower
-// of b and the best so far.
-fn nearer(nodes: usize, row: &[u16], u: u16, a: u16, b: u16, wanted: u16, best: u16) -> u16
-    requires { nodes ≤ length row.now }
-    ensures { Nearer nodes row.now u a b wanted best result }
+// of b and the best so far. The row has a place for each node.
+fn nearer(row: &[u16], u: u16, a: u16, b: u16, wanted: u16, best: Option<u16>) -> Option<u16>
+    ensures { Nearer row.now u a b wanted best result }
 {
-    let place = b as usize;
-    if a != u {
+    if a != u || row.get(b as usize).copied() != Some(wanted) {
         return best;
     }
-    if place >= nodes {
-        return best;
-    }
-    let distance = row[place];
-    if distance != wanted {
-        return best;
-    }
-    if best <= b {
-        return best;
-    }
-    b
+    Some(best.unwrap_or(b).min(b))
 }
 
-// The lowest-numbered neighbour of u at the wanted distance from the goal, the mark for "no walk" if there is
-// none.
-fn next_node(nodes: usize, lanes: &[u16], row: &[u16], u: u16, wanted: u16) -> u16
-    requires { nodes ≤ length row.now }
-    ensures { LowestNext nodes lanes.now row.now u wanted result }
+// The lowest-numbered neighbour of u at the wanted distance from the goal, if there is one.
+fn next_node(lanes: &[u16], row: &[u16], u: u16, wanted: u16) -> Option<u16>
+    ensures { LowestNext lanes.now row.now u wanted result }
 {
-    let count = lanes.len();
-    let mut best: u16 = Job::NO_WALK;
-    let mut i: usize = 0;
-    while i + 1 < count {
-        let a = lanes[i];
-        let b = lanes[i + 1];
-        best = nearer(nodes, row, u, a, b, wanted, best);
-        best = nearer(nodes, row, u, b, a, wanted, best);
-        i += 2;
+    let mut best = None;
+    for lane in lanes.chunks_exact(2) {
+        best = nearer(row, u, lane[0], lane[1], wanted, best);
+        best = nearer(row, u, lane[1], lane[0], wanted, best);
     }
     best
 }
 
 // The house path, from the start on until the goal; how many nodes it has. Places past its end are not
-// touched. Which nodes are closed is told by the row alone.
-fn lay(nodes: usize, lanes: &[u16], row: &[u16], ends: Ends, path: &mut [u16]) -> usize
+// touched. The row has a place for each node, and it alone tells which of them are closed.
+fn lay(lanes: &[u16], row: &[u16], ends: Ends, path: &mut [u16]) -> usize
     requires { (closed : List ℕ)
-        × Downhill (network_of nodes lanes.now closed) ends.start ends.goal row.now
+        × Downhill (network_of (length row.now) lanes.now closed) ends.start ends.goal row.now
         × (node_limit ≤ length path.old) }
     ensures { (closed : List ℕ)
-        → Downhill (network_of nodes lanes.now closed) ends.start ends.goal row.now
-        → Laid (network_of nodes lanes.now closed)
+        → Downhill (network_of (length row.now) lanes.now closed) ends.start ends.goal row.now
+        → Laid (network_of (length row.now) lanes.now closed)
         ends.start ends.goal
         path.old path.new
         result }
 {
-    let here = ends.start as usize;
-    let mut left = row[here];
+    let mut left = row[ends.start as usize];
     let mut u = ends.start;
-    let mut at: usize = 0;
+    let mut at = 0;
     path[0] = u;
     while u != ends.goal {
         left -= 1;
         at += 1;
-        u = next_node(nodes, lanes, row, u, left);
+        u = next_node(lanes, row, u, left).unwrap();
         path[at] = u;
     }
     at + 1
@@ -116,7 +96,7 @@ pub fn house(network: &Network, ends: Ends, path: &mut [u16]) -> Result<usize, R
     }
     hall::zero::fill_first(path, Job::NODES, 0);
     let row = check_reached(network, ends)?;
-    let count = lay(network.nodes, network.lanes, &row, ends, path);
+    let count = lay(network.lanes, &row[..network.nodes], ends, path);
     Ok(count)
 }
 
@@ -124,22 +104,11 @@ pub fn house(network: &Network, ends: Ends, path: &mut [u16]) -> Result<usize, R
 fn joined(lanes: &[u16], a: u16, b: u16) -> bool
     ensures { Answers result (Lane lanes.now a b) }
 {
-    let count = lanes.len();
-    let mut i: usize = 0;
-    while i + 1 < count {
-        let x = lanes[i];
-        let y = lanes[i + 1];
-        if x == a {
-            if y == b {
-                return true;
-            }
+    for lane in lanes.chunks_exact(2) {
+        let pair = (lane[0], lane[1]);
+        if pair == (a, b) || pair == (b, a) {
+            return true;
         }
-        if x == b {
-            if y == a {
-                return true;
-            }
-        }
-        i += 2;
     }
     false
 }
@@ -149,50 +118,19 @@ fn joined(lanes: &[u16], a: u16, b: u16) -> bool
 fn walks(lanes: &[u16], ends: Ends, list: &[u16]) -> bool
     ensures { Answers result (Walks lanes.now ends.start ends.goal list.now) }
 {
-    let count = list.len();
-    if count == 0 {
-        return false;
-    }
-    let last = count - 1;
-    if list[0] != ends.start {
-        return false;
-    }
-    if list[last] != ends.goal {
-        return false;
-    }
-    let mut k: usize = 0;
-    while k < last {
-        let here = list[k];
-        let next = list[k + 1];
-        if joined(lanes, here, next) {
-            k += 1;
-        } else {
-            return false;
-        }
-    }
-    true
+    list.first().copied() == Some(ends.start)
+        && list.last().copied() == Some(ends.goal)
+        && list.windows(2).all(|step| joined(lanes, step[0], step[1]))
 }
 
-// Whether each number of the list is a node with a walk to the goal, by the row of distances: no such node is
-// closed.
-fn all_on_way(nodes: usize, row: &[u16], list: &[u16]) -> bool
-    requires { nodes ≤ length row.now }
-    ensures { Answers result (AllOnWay nodes row.now list.now) }
+// Whether each number of the list is a node with a walk to the goal, by the row of distances, which has a place
+// for each node: no such node is closed.
+fn all_on_way(row: &[u16], list: &[u16]) -> bool
+    ensures { Answers result (AllOnWay row.now list.now) }
 {
-    let count = list.len();
-    let mut k: usize = 0;
-    while k < count {
-        let place = list[k] as usize;
-        if place >= nodes {
-            return false;
-        }
-        let stands = row[place];
-        if stands == Job::NO_WALK {
-            return false;
-        }
-        k += 1;
-    }
-    true
+    list.iter().all(|node| row
+        .get(*node as usize)
+        .is_some_and(|distance| *distance != Job::NO_WALK))
 }
 
 // Whether a proposed list is one of a move's shortest paths. It is refused with 11 exactly if it is none,
@@ -205,18 +143,13 @@ pub fn judge(network: &Network, ends: Ends, list: &[u16]) -> Result<(), Refusal>
         list.now list.now
         result }
 {
-    let row = check_reached(network, ends)?;
+    let reached = check_reached(network, ends)?;
+    let row = &reached[..network.nodes];
     let whole = row[ends.start as usize] as usize + 1;
-    let count = list.len();
-    let unfit = Refusal::new(Fault::NotShortest, 0);
-    if count == whole {
-        if all_on_way(network.nodes, &row, list) {
-            if walks(network.lanes, ends, list) {
-                return Ok(());
-            }
-        }
+    if list.len() == whole && all_on_way(row, list) && walks(network.lanes, ends, list) {
+        return Ok(());
     }
-    Err(unfit)
+    Err(Refusal::new(Fault::NotShortest, 0))
 }
 
 // Takes the own list where it is a shortest path of the move, the spare where only that is one, and where

@@ -23,7 +23,8 @@ pub returns : goal.returns
 returns c =
     let N : Network = network_in c.args.network.now in
     let reached = c.in_ok-row.ensures in
-    let laid = c.lay-count.ensures c.args.network.now.closed.now reached.1 in
+    let e = reached.1.size in
+    let laid = rw e at (c.lay-count.ensures c.args.network.now.closed.now (rw e reached.1)) in
     record {
       given =
           left_accepted _ N c.args.ends.start c.args.ends.goal c.args.path.now

@@ -1,12 +1,10 @@
--- The invariant of `joined`: i is even, and no lane before place i joins a and b. The measure is what is left of
--- the lane list.
-use Rattle.std.proofs.Common.{◌-◌, ◌%◌, ◌≡◌, ◌≤◌, length}
+-- The invariant of `joined`: no lane before a place i joins a and b, and the rest of the list is left.
+use Rattle.std.proofs.Common.{ℕ, ◌≡◌}
+use Rattle.path.proofs.LanePairs.{Parted}
 use Rattle.path.proofs.LaneScan.{Passed}
 use Rattle.path.proofs.joined.Given as goal
 
-abbrev pub invariant-loop-i : goal.invariant-loop-i
-invariant-loop-i l =
-    (l.count ≡ length l.lanes) × (l.i ≤ l.count) × (l.i % 2 ≡ 0) × Passed l.lanes l.a l.b l.i
-
-abbrev pub decreases-loop-i : goal.decreases-loop-i
-decreases-loop-i l = l.count - l.i
+abbrev pub invariant-loop-lane : goal.invariant-loop-lane
+invariant-loop-lane l =
+    (l.lane-iterator.size ≡ 2)
+    × (i : ℕ) × Parted l.lanes l.lane-iterator.rest.now i × Passed l.lanes l.a l.b i

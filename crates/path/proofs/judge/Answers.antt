@@ -4,43 +4,32 @@
 use Rattle.std.proofs.Common.{refl}
 use Rattle.path.proofs.Listed.{list_passes, list_unfit}
 use Rattle.path.proofs.judge.Goals as goal
+use Rattle.path.proofs.judge.Goals.{else-list-whole-via-then-list-whole+then-all_on_way+else-walks}
+use Rattle.path.proofs.judge.Goals.{else-list-whole-via-then-list-whole+else-all_on_way}
+use Rattle.path.proofs.judge.Goals.{else-list-whole-via-else-list-whole}
 
 pub returns-then-walks : goal.returns-then-walks
 returns-then-walks c =
-    let reached = c.in_ok-row.ensures in
+    let reached = c.in_ok-reached.ensures in
     record {
       judged =
-          list_passes _ _ _ _ reached.0 reached.1 c.if-count-whole.true c.if-all_on_way.ensures c.if-walks.ensures;
+          list_passes _ _ _ _ reached.0 reached.1 c.if-list-whole.true c.if-all_on_way.ensures c.if-walks.ensures;
       network_kept = refl;
       list_kept = refl;
     }
 
-pub returns-else-walks : goal.returns-else-walks
-returns-else-walks c =
-    let reached = c.in_ok-row.ensures in
-    rw c.new-unfit.ensures
+pub returns : goal.returns
+returns c =
+    let reached = c.in_ok-reached.ensures in
+    rw c.new.ensures
     (record {
-      judged = list_unfit _ _ _ _ reached.0 reached.1 (λ h. c.if-walks.ensures h.2);
-      network_kept = refl;
-      list_kept = refl;
-    })
-
-pub returns-else-all_on_way : goal.returns-else-all_on_way
-returns-else-all_on_way c =
-    let reached = c.in_ok-row.ensures in
-    rw c.new-unfit.ensures
-    (record {
-      judged = list_unfit _ _ _ _ reached.0 reached.1 (λ h. c.if-all_on_way.ensures h.1);
-      network_kept = refl;
-      list_kept = refl;
-    })
-
-pub returns-else-count-whole : goal.returns-else-count-whole
-returns-else-count-whole c =
-    let reached = c.in_ok-row.ensures in
-    rw c.new-unfit.ensures
-    (record {
-      judged = list_unfit _ _ _ _ reached.0 reached.1 (λ h. c.if-count-whole.false h.0);
+      judged =
+          list_unfit _ _ _ _ reached.0 reached.1
+          (λ h. elim c.else-list-whole.branch [
+            | else-list-whole-via-then-list-whole+then-all_on_way+else-walks w ↦ w.if-walks.ensures h.2
+            | else-list-whole-via-then-list-whole+else-all_on_way w ↦ w.if-all_on_way.ensures h.1
+            | else-list-whole-via-else-list-whole w ↦ w.if-list-whole.false h.0
+          ]);
       network_kept = refl;
       list_kept = refl;
     })

@@ -1,20 +1,24 @@
--- Before the first lane nothing is looked at; a lane more is looked at in both directions; and with all of them
--- looked at the best so far is the lowest.
-use Rattle.std.proofs.Common.{refl, arith}
-use Rattle.path.proofs.NextNode.{seeking_none, seeking_lane, seeking_all}
+-- Before the first lane nothing is looked at; the pair that comes next is a lane more, looked at in both directions;
+-- and with less than a pair left the best so far is the lowest.
+use Rattle.std.proofs.Common.{◌∙◌, arith}
+use Rattle.path.proofs.LanePairs.{parted_all, next_pair}
+use Rattle.path.proofs.NextNode.{seeking_lane, seeking_all}
 use Rattle.path.proofs.next_node.Goals as goal
 
-pub loop-i-init : goal.loop-i-init
-loop-i-init c = (
-  refl,
-  omega arith,
-  seeking_none c.args.nodes c.args.lanes.now c.args.row.now c.args.u c.args.wanted,
-)
-
-pub loop-i-preserved : goal.loop-i-preserved
-loop-i-preserved c =
-    let seeking = c.loop-i.invariant.2 in
-    (refl, omega arith, seeking_lane c.loop-i-test.true seeking c.nearer-best.ensures c.nearer-best-in-loop-i.ensures)
+pub loop-lane-preserved : goal.loop-lane-preserved
+loop-lane-preserved c =
+    let kept = c.loop-lane.invariant in
+    let steps = c.in-Some.ensures.steps in
+    let at = next_pair kept.2 c.in-Some.lane.now c.next.new.self.rest.now steps.1.0 (steps.1.1 ∙ kept.0) in (
+      steps.0 ∙ kept.0,
+      _,
+      at.passed,
+      seeking_lane kept.2.even at.inside at.first at.second kept.3 c.nearer-best.ensures
+          c.nearer-best-in-loop-lane.ensures,
+    )
 
 pub returns : goal.returns
-returns c = seeking_all c.loop-i.invariant.2 c.loop-i-test.false
+returns c =
+    let kept = c.loop-lane.invariant in
+    let steps = c.in-None.ensures.steps in
+    seeking_all kept.3 (parted_all kept.2 (omega arith))

@@ -1,12 +1,11 @@
--- The invariant of `next_node` is `Seeking`: the lanes before place i are looked at in both directions. The measure
--- is what is left of the lane list.
-use Rattle.std.proofs.Common.{◌-◌, ◌≡◌, ◌≤◌, length}
+-- The invariant of `next_node` is `Seeking`: the lanes before a place i are looked at in both directions, and the
+-- rest of the list is left.
+use Rattle.std.proofs.Common.{ℕ, ◌≡◌}
+use Rattle.path.proofs.LanePairs.{Parted}
 use Rattle.path.proofs.NextNode.{Seeking}
 use Rattle.path.proofs.next_node.Given as goal
 
-abbrev pub invariant-loop-i : goal.invariant-loop-i
-invariant-loop-i l =
-    (l.count ≡ length l.lanes) × (l.i ≤ l.count) × Seeking l.nodes l.lanes l.row l.u l.wanted l.i l.best
-
-abbrev pub decreases-loop-i : goal.decreases-loop-i
-decreases-loop-i l = l.count - l.i
+abbrev pub invariant-loop-lane : goal.invariant-loop-lane
+invariant-loop-lane l =
+    (l.lane-iterator.size ≡ 2)
+    × (i : ℕ) × Parted l.lanes l.lane-iterator.rest.now i × Seeking l.lanes l.row l.u l.wanted i l.best

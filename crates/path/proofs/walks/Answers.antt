@@ -1,24 +1,25 @@
--- The first and the last number are tested before the loop, each lane in it, and at the last node all of the list
--- is walked.
-use Rattle.std.proofs.Common.{arith}
-use Rattle.hall.proofs.Answers.{affirmed}
-use Rattle.path.proofs.Listed.{walking_none, walking_lane, walking_all}
+-- The first and the last number are tested, and then each step, so that all of the terms of `Walks` are.
+use Rattle.std.proofs.Common.{rules, ◌≡◌, ◌∙◌, ◌-◌, sym, length, Some}
+use Rattle.std.specs.List.{slice_get}
+use borrow.Author.Tests.{tests}
+use Rattle.std.proofs.lemmas.Iterator.{cases_from_all}
+use Rattle.hall.specs.Floor.{Lane}
+use Rattle.hall.proofs.Answers.{true_not_false}
+use Rattle.path.proofs.Listed.{walks_told}
+use Rattle.path.proofs.StepPairs.{yields_steps, told}
 use Rattle.path.proofs.walks.Goals as goal
+use Rattle.path.proofs.walks.Goals.{then-eq, else-eq}
 
-pub loop-k-init : goal.loop-k-init
-loop-k-init c = (
-  omega (arith, c.if-count-eq0.false),
-  omega arith,
-  walking_none _ c.if-list-ends.false c.if-list-last.false,
-)
-
-pub loop-k-preserved : goal.loop-k-preserved
-loop-k-preserved c =
-    let inv = c.loop-k.invariant in
-    let lane = affirmed _ c.if-joined.true c.joined.ensures in
-    (inv.0, omega (arith, c.loop-k-test.true), walking_lane inv.2 lane)
-
-pub returns : goal.returns
-returns c =
-    let inv = c.loop-k.invariant in
-    walking_all inv.2 (omega (arith, inv.0, inv.1, c.loop-k-test.false))
+pub returns-then-eq-2 : goal.returns-then-eq-2
+returns-then-eq-2 c =
+    let all = cases_from_all _ _ c.all.result (λ p. Lane c.args.lanes.now p.0 p.1) (λ p. ¬ Lane c.args.lanes.now p.0 p.1)
+    c.all.ensures.ran (yields_steps c.args.list.now c.windows.ensures.size c.windows.ensures.rest)
+    (λ x q k. search (rules, tests)) (λ x q k. search (rules, tests)) in
+    let each = told (Lane c.args.lanes.now) c.args.list.now c.all.result all in
+    elim c.if-eq.branch [
+      | then-eq w ↦
+          let first : slice_get c.args.list.now 0 ≡ Some c.args.ends.start = search (rules, tests) in
+          let last : slice_get c.args.list.now (length c.args.list.now - 1) ≡ Some c.args.ends.goal = search (rules, tests) in
+          walks_told c.args.lanes.now c.args.list.now first last c.all.result each
+      | else-eq w ↦ absurd (true_not_false (sym (c.if-eq-2.true) ∙ w.value-is ∙ w.if-eq.false))
+    ]
