@@ -1,6 +1,6 @@
 -- The kind of a byte, by where its number lies, and back. Each law turns the tests of `kind_of` one by one; a
 -- byte lies in one of seven places. Assumes nothing.
---     kind-..      a byte that lies there has this kind
+--     kind-..      a byte that lies there has this kind; `kinds` all of these laws
 --     LiesIn       where the bytes of a kind lie; `lies` a byte of the kind lies there
 use mathlib.Core.Path.{◌≡◌}
 use mathlib.Core.Logic.{◌≢◌}
@@ -63,6 +63,9 @@ module _ (b : ℕ) where
         le-leb 65 b (omega arith),
         lt-leb b 90 h,
       )
+
+-- the kind of a byte, wherever it lies
+pub ruleset kinds = (kind_digit, kind_space, kind_line_feed, kind_capital, kind_low, kind_between, kind_high)
 
 -- ---- where the bytes of a kind lie
 

@@ -16,7 +16,7 @@ impl From<u8> for Kind {
     // The kind of a byte.
     ghost from_gives = { λ b kind. kind ≡ kind_of b };
 
-    #[tactic(auto, using(crate::proofs::ByteKinds::kind_digit, crate::proofs::ByteKinds::kind_space, crate::proofs::ByteKinds::kind_line_feed, crate::proofs::ByteKinds::kind_capital, crate::proofs::ByteKinds::kind_low, crate::proofs::ByteKinds::kind_between, crate::proofs::ByteKinds::kind_high))]
+    #[tactic(auto, using(crate::proofs::ByteKinds::kinds))]
     fn from(b: u8) -> Kind {
         match b {
             b'0'..=b'9' => Kind::Digit,
