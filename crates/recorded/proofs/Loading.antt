@@ -1,39 +1,21 @@
 -- The moves that are loaded are those of the records, as far as an answer goes. Up to 65 records all moves
 -- are loaded. Where there are more, 65 are, which is more than 64 too, and an answer that any two such jobs
--- share is an answer for the records' own moves. The part of the local list that is handed on is that of the
--- loaded moves: no list has more numbers than it has. Assumes nothing.
---     part_length, part_is    the part that is handed on: its length, and that it is what is loaded
---     loaded_as               what holds of the loaded moves holds of the records' moves, if it holds alike
---                             of any moves of more than 64 carriers
-use mathlib.Core.Path.{◌≡◌, sym, ◌∙◌, ap, subst}
+-- share is an answer for the records' own moves. Assumes nothing.
+--     zeros130     the local list before it is loaded
+--     loaded_as    what holds of the loaded moves holds of the records' moves, if it holds alike of any moves
+--                  of more than 64 carriers
+use mathlib.Core.Path.{◌≡◌, subst}
 use mathlib.Core.List.{List}
 use Prim.Native.Nat.{ℕ, ◌*◌, ◌≤◌, ◌<◌, min}
 use native.Mathlib.Decide.{dec_le}
 use native.Mathlib.Omega.{arith}
-use lib.ListN.{length, take, replicate, length-take, length-replicate}
-use lib.Seq.{take_all, take-length, length-take-le}
+use lib.ListN.{length, replicate, length-take, length-replicate}
 use Rattle.hall.specs.Limits.{carrier_limit}
 use Rattle.hall.specs.Job.{move_count}
 use Rattle.records.specs.declared.Record.{Record}
 use Rattle.records.specs.Table.{moves_of, moved}
 use Rattle.records.proofs.Laws.{moves_count, moved_length, moved_front}
 use Rattle.recorded.specs.Loading.{loaded}
-
--- ---- the part that is handed on
-
-take_min : (k : ℕ) (l : List ℕ) → take (min k (length l)) l ≡ take k l
-take_min k l = cases (dec_le k (length l))
-  where
-    cases : Dec (k ≤ length l) → take (min k (length l)) l ≡ take k l
-    cases (yes h) = let m : min k (length l) ≡ k = omega arith in rw m
-    cases (no h) = let m : min k (length l) ≡ length l = omega arith in rw m (take-length l ∙ sym (take_all k l (omega arith)))
-
-module _ (n : ℕ) (ms : List ℕ) (k : ℕ) (counted : k ≡ min (2 * min n 65) (length ms)) where
-  pub part_length : k ≡ length (take k ms)
-  part_length = sym (length-take-le k ms (omega (arith, counted)))
-
-  pub part_is : take k ms ≡ loaded n ms
-  part_is = ap (λ (m : ℕ). take m ms) counted ∙ take_min (2 * min n 65) ms
 
 -- ---- the local list, once it is loaded
 
