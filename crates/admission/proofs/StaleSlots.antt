@@ -17,8 +17,10 @@ use Prim.Native.Nat.{ℕ, ◌+◌, ◌≤◌, ◌<◌}
 use native.Mathlib.Nat.{not-suc-le-zero}
 use native.Mathlib.Decide.{dec_lt}
 use native.Mathlib.Omega.{arith}
-use lib.ListN.{length}
+use lib.ListN.{length, get_or}
 use borrow.Author.Count.{below_more}
+use Rattle.std.specs.Prelude.{Option, Some, unwrap_or}
+use Rattle.std.specs.Bool.{then_some}
 use Rattle.hall.specs.Limits.{node_limit, distance_limit}
 use Rattle.hall.specs.Floor.{Dist, DistanceIs, no_walk, distance, Network, floor}
 use Rattle.hall.specs.Rule.{Answers}
@@ -32,8 +34,8 @@ use Rattle.slots.specs.Record.{slot_count, free, slot_at, Standing, StandsAt}
 use Rattle.slots.specs.Refusals.{BadSlot, SomeBadSlot, far_distance}
 use Rattle.admission.specs.Refusals.{Stale, start_shut, goal_shut, other_distance}
 use Rattle.admission.specs.Questions.{stale_checks, stale_slots}
-use Rattle.admission.specs.Steps.{StaleAt, StandsFrom, StandsBefore, OffRow, no_row, no_goal}
-use Rattle.admission.specs.Steps.{other_number, StaleBy, LowestBy, Sieved}
+use Rattle.admission.specs.Steps.{StaleAt, StandsFrom, StandsBefore, OffRow, no_row, no_goal, other_number}
+use Rattle.admission.specs.Steps.{StaleBy, LowestBy, stale, none_stale, Sieved}
 use Rattle.slots.proofs.Slots.{is_free_dec}
 
 -- ---- one slot
@@ -42,6 +44,14 @@ use Rattle.slots.proofs.Slots.{is_free_dec}
 pub stands_there : (w t start : ℕ) (c : Slot) (r : Bool) → c.start ≡ start → Answers r (StandsAt w t c) → Answers r (StandsFrom w t start c)
 stands_there w t start c true e h = record { stands = h; from_there = e }
 stands_there w t start c false e k = λ h. k h.stands
+
+-- where the row tells the distance held, it is not stale
+pub on_row : {nodes start w t : ℕ} {row : List ℕ} {c : Slot} → c.goal < nodes → get_or row c.goal 0 ≡ c.distance → ¬ StaleBy nodes (Some row) start w t c
+on_row {nodes} {row = row} {c = c} l e s = off s.off
+  where
+    off : OffRow nodes c (Some row) → ⊥
+    off (no_goal g) = omega arith
+    off (other_number k) = k e
 
 module _ (N : Network) (c : Slot) where
   pub goal_off : N.nodes ≤ c.goal → ¬ Dist (floor N) c.start c.goal c.distance
@@ -68,25 +78,23 @@ module _ (N : Network) (c : Slot) where
   -- by the row of its start
   module _ (w t : ℕ) {row left : List ℕ} {r : Bool} (few : N.nodes ≤ node_limit) (size : length row ≡ node_limit) (rowed : Rowed N c.start row left r)
       (small : c.distance ≤ distance_limit) where
-    pub row_stale : {start : ℕ} → StaleBy N.nodes r left start w t c → StaleAt N w t c
-    row_stale s = record { stands = s.there.stands; other = by s.off }
+    pub row_stale : {start : ℕ} → StaleBy N.nodes (then_some r left) start w t c → StaleAt N w t c
+    row_stale s = record { stands = s.there.stands; other = by r rowed s.off }
       where
-        by : OffRow N.nodes r left c → ¬ Dist (floor N) c.start c.goal c.distance
-        by (no_row e) d = start_off few size rowed e d
-        by (no_goal l) d = goal_off l d
-        by (other_number k) d = served rowed
-          where
-            served : Rowed N c.start row left r → ⊥
-            served (refused e n same) = start_off few size (refused e n same) e d
-            served (filled e h f) = k ((row_tells (f.holds c.goal (ends_on_node d.walk).numbered) small).1 d)
+        by : (r : Bool) → Rowed N c.start row left r → OffRow N.nodes c (then_some r left) → ¬ Dist (floor N) c.start c.goal c.distance
+        by false told off d = start_off few size told refl d
+        by true told (no_goal l) d = goal_off l d
+        by true (refused e n same) (other_number k) d = absurd (true_not_false e)
+        by true (filled e h f) (other_number k) d = k ((row_tells (f.holds c.goal (ends_on_node d.walk).numbered) small).1 d)
 
-    pub stale_row : StaleAt N w t c → StaleBy N.nodes r left c.start w t c
-    stale_row s = record { there = record { stands = s.stands; from_there = refl }; off = by rowed (dec_lt c.goal N.nodes) }
+    pub stale_row : StaleAt N w t c → StaleBy N.nodes (then_some r left) c.start w t c
+    stale_row s = record { there = record { stands = s.stands; from_there = refl }; off = by r rowed (dec_lt c.goal N.nodes) }
       where
-        by : Rowed N c.start row left r → Dec (c.goal < N.nodes) → OffRow N.nodes r left c
-        by (refused e n same) l = no_row e
-        by (filled e h f) (no l) = no_goal (omega arith)
-        by (filled e h f) (yes l) = other_number (λ e. s.other ((row_tells (f.holds c.goal l) small).0 e))
+        by : (r : Bool) → Rowed N c.start row left r → Dec (c.goal < N.nodes) → OffRow N.nodes c (then_some r left)
+        by false told l = no_row
+        by true (refused e n same) l = absurd (true_not_false e)
+        by true (filled e h f) (no l) = no_goal (omega arith)
+        by true (filled e h f) (yes l) = other_number (λ e. s.other ((row_tells (f.holds c.goal l) small).0 e))
 
 -- ---- slot by slot
 
@@ -139,35 +147,32 @@ module _ (N : Network) (w t : ℕ) (slots : List Slot) (size : length slots ≡ 
     pub sieve_seen : StandsBefore w t slots (slot_at slots i).start i → Sieved N w t slots (i + 1) lowest
     sieve_seen b = and_then (λ p m h e. s.clear b.place p b.earlier m b.there.stands (e ∙ sym b.there.from_there))
 
-    pub sieve_judged : {row left : List ℕ} {served : Bool} {r : ℕ} → N.nodes ≤ node_limit → length row ≡ node_limit → Rowed N (slot_at slots i).start row left served
-        → ((p : ℕ) → p < slot_count → (slot_at slots p).distance ≤ distance_limit) → ¬ StandsBefore w t slots (slot_at slots i).start i
-        → LowestBy N.nodes served left (slot_at slots i).start w t slots i lowest r → Sieved N w t slots (i + 1) r
-    sieve_judged {row} {left} {served} {r} few wide rowed small first low = record {
-      most = omega (arith, s.most, low.most);
-      stale = now_stale;
-      clear = λ j p l m. below_more (λ j. StandsAt w t (slot_at slots j) → (slot_at slots p).start ≡ (slot_at slots j).start → ¬ StaleAt N w t (slot_at slots p)) i (λ j l. s.clear j p l (omega (arith, low.most))) (now_clear p m) j l;
-    }
-      where
-        now_stale : r < slot_count → StaleAt N w t (slot_at slots r)
-        now_stale l = cases (dec_lt r lowest)
-          where
-            cases : Dec (r < lowest) → StaleAt N w t (slot_at slots r)
-            cases (no k) = let e : r ≡ lowest = omega (arith, low.most) in rw e (s.stale (omega arith))
-            cases (yes m) =
-                let b = low.stale m in
-                let there : Rowed N (slot_at slots r).start row left served = rw b.there.from_there rowed in
-                row_stale N (slot_at slots r) w t few wide there (small r l) b
+    module _ {row left : List ℕ} {served : Bool} (few : N.nodes ≤ node_limit) (wide : length row ≡ node_limit) (rowed : Rowed N (slot_at slots i).start row left served)
+        (small : (p : ℕ) → p < slot_count → (slot_at slots p).distance ≤ distance_limit) (first : ¬ StandsBefore w t slots (slot_at slots i).start i) where
+      -- a slot before i with this start would stand before i; one from i on was judged
+      judged : (r : ℕ) → r ≤ lowest → ((p : ℕ) → p < r → i ≤ p → ¬ StaleBy N.nodes (then_some served left) (slot_at slots i).start w t (slot_at slots p))
+          → (r < slot_count → StaleAt N w t (slot_at slots r)) → Sieved N w t slots (i + 1) r
+      judged r within none now_stale = record {
+        most = omega (arith, s.most);
+        stale = now_stale;
+        clear = λ j p q m. below_more (λ j. StandsAt w t (slot_at slots j) → (slot_at slots p).start ≡ (slot_at slots j).start → ¬ StaleAt N w t (slot_at slots p)) i (λ j l. s.clear j p l (omega arith)) (now_clear p m) j q;
+      }
+        where
+          now_clear : (p : ℕ) → p < r → StandsAt w t (slot_at slots i) → (slot_at slots p).start ≡ (slot_at slots i).start → ¬ StaleAt N w t (slot_at slots p)
+          now_clear p m h e k = cases (dec_lt p i)
+            where
+              cases : Dec (p < i) → ⊥
+              cases (yes z) = first (record { place = p; earlier = z; there = record { stands = k.stands; from_there = e } })
+              cases (no z) =
+                  let there : Rowed N (slot_at slots p).start row left served = rw e rowed in
+                  let by = stale_row N (slot_at slots p) w t few wide there (small p (omega (arith, s.most))) k in
+                  none p m (omega arith) (subst (λ (a : ℕ). StaleBy N.nodes (then_some served left) a w t (slot_at slots p)) e by)
 
-        -- a slot before i with this start would stand before i; one from i on was judged
-        now_clear : (p : ℕ) → p < r → StandsAt w t (slot_at slots i) → (slot_at slots p).start ≡ (slot_at slots i).start → ¬ StaleAt N w t (slot_at slots p)
-        now_clear p m h e k = cases (dec_lt p i)
-          where
-            cases : Dec (p < i) → ⊥
-            cases (yes l) = first (record { place = p; earlier = l; there = record { stands = k.stands; from_there = e } })
-            cases (no l) =
-                let there : Rowed N (slot_at slots p).start row left served = rw e rowed in
-                let by = stale_row N (slot_at slots p) w t few wide there (small p (omega (arith, s.most, low.most))) k in
-                low.none_before p (omega arith) m (subst (λ (a : ℕ). StaleBy N.nodes served left a w t (slot_at slots p)) e by)
+      pub sieve_judged : {o : Option ℕ} → LowestBy N.nodes (then_some served left) (slot_at slots i).start w t slots i lowest o → Sieved N w t slots (i + 1) (unwrap_or o lowest)
+      sieve_judged (none_stale none) = judged lowest (omega arith) none s.stale
+      sieve_judged (stale {r} l by none) = judged r (omega arith) none (λ m.
+          let there : Rowed N (slot_at slots r).start row left served = rw by.there.from_there rowed in
+          row_stale N (slot_at slots r) w t few wide there (small r m) by)
 
 -- a number that is at most a limit in every carrier that is not bad, and 0 in a free slot, is so in every
 -- slot

@@ -3,11 +3,11 @@
 --                      on the network is not the one held
 --     StandsFrom       a slot with this start holds a carrier whose last tick is t or later
 --     StandsBefore     some slot before place i does
---     OffRow           the row from a carrier's start does not tell the distance held: the walk was refused,
---                      the goal is no node, or the row has another number there
+--     OffRow           the row from a carrier's start does not tell the distance held: there is none, since
+--                      the walk was refused; the goal is no node; or the row has another number there
 --     StaleBy          a slot with this start stands so, and the row from there does not tell its distance
---     LowestBy         a place at most `lowest`: `lowest` itself, or such a slot; and none between `from` and
---                      that place is such a slot
+--     LowestBy         the lowest such slot from the place `from` on and before the place `end`, if there is
+--                      one
 --     Sieved           no slot below `lowest` that has the start of a standing slot before place i is stale,
 --                      and `lowest` is stale, or 64
 --     starts_for       the distance between the starts, by the row from a move's start; the mark for "no
@@ -59,20 +59,21 @@ pub record StandsBefore (w t : ℕ) (slots : List Slot) (start i : ℕ) : Type 0
   pub earlier : place < i
   pub there : StandsFrom w t start (slot_at slots place)
 
-pub data OffRow (nodes : ℕ) (served : Bool) (row : List ℕ) (c : Slot) : Type 0 where
-  no_row : served ≡ false → OffRow nodes served row c
-  no_goal : nodes ≤ c.goal → OffRow nodes served row c
-  other_number : get_or row c.goal 0 ≢ c.distance → OffRow nodes served row c
+pub data OffRow (nodes : ℕ) (c : Slot) : Option (List ℕ) → Type 0 where
+  no_row : OffRow nodes c None
+  no_goal : {row : List ℕ} → nodes ≤ c.goal → OffRow nodes c (Some row)
+  other_number : {row : List ℕ} → get_or row c.goal 0 ≢ c.distance → OffRow nodes c (Some row)
 
-pub record StaleBy (nodes : ℕ) (served : Bool) (row : List ℕ) (start w t : ℕ) (c : Slot) : Type 0 where
+pub record StaleBy (nodes : ℕ) (row : Option (List ℕ)) (start w t : ℕ) (c : Slot) : Type 0 where
   pub there : StandsFrom w t start c
-  pub off : OffRow nodes served row c
+  pub off : OffRow nodes c row
 
-pub record LowestBy (nodes : ℕ) (served : Bool) (row : List ℕ) (start w t : ℕ) (slots : List Slot)
-    (from lowest r : ℕ) : Type 0 where
-  pub most : r ≤ lowest
-  pub stale : r < lowest → StaleBy nodes served row start w t (slot_at slots r)
-  pub none_before : (p : ℕ) → from ≤ p → p < r → ¬ StaleBy nodes served row start w t (slot_at slots p)
+pub data LowestBy (nodes : ℕ) (row : Option (List ℕ)) (start w t : ℕ) (slots : List Slot) (from end : ℕ) : Option ℕ → Type 0 where
+  stale : {r : ℕ} → r < end → StaleBy nodes row start w t (slot_at slots r)
+      → ((p : ℕ) → p < r → from ≤ p → ¬ StaleBy nodes row start w t (slot_at slots p))
+      → LowestBy nodes row start w t slots from end (Some r)
+  none_stale : ((p : ℕ) → p < end → from ≤ p → ¬ StaleBy nodes row start w t (slot_at slots p))
+      → LowestBy nodes row start w t slots from end None
 
 pub record Sieved (N : Network) (w t : ℕ) (slots : List Slot) (i lowest : ℕ) : Type 0 where
   pub most : lowest ≤ slot_count

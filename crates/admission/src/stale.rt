@@ -4,7 +4,7 @@
 //
 // A carrier is judged by the row of distances from its start. Carriers that come from one lift have one row,
 // so there is one walk for each different start: the lowest slot with a start judges all that have it.
-ghost use Rattle.std.specs.Prelude.{[], ◌∷◌, ◌+◌, ◌≤◌, ◌<◌};
+ghost use Rattle.std.specs.Prelude.{[], ◌∷◌, ◌+◌, ◌≤◌, ◌<◌, option_copied};
 ghost use Rattle.hall.specs.Limits.{node_limit};
 ghost use Rattle.hall.specs.Floor.{network_in};
 ghost use Rattle.hall.specs.Rule.{Answers};
@@ -21,10 +21,7 @@ use slots::{Book, Slot, stands};
 fn stands_from(slot: Slot, start: u16, dwell: u32, t: u32) -> bool
     ensures { Answers result (StandsFrom dwell t start slot) }
 {
-    if slot.start != start {
-        return false;
-    }
-    stands(slot, dwell, t)
+    slot.start == start && stands(slot, dwell, t)
 }
 
 // Whether a slot before place i does.
@@ -32,39 +29,30 @@ fn judged_before(slots: [Slot; Book::SLOTS], start: u16, dwell: u32, t: u32, i: 
     requires { i ≤ slot_count }
     ensures { Answers result (StandsBefore dwell t slots start i) }
 {
-    let mut j: usize = 0;
-    while j < i {
-        let slot = slots[j];
-        if stands_from(slot, start, dwell, t) {
-            return true;
-        }
-        j += 1;
-    }
-    false
+    slots[..i].iter().any(|slot| stands_from(*slot, start, dwell, t))
 }
 
 // Whether a slot with this start holds a carrier whose last tick is t or later, and whose distance is not the
-// one that the row from its start tells. Where its start is no node the row was refused; where one of its
-// ends is no open node there is no walk, and so no distance.
+// one that the row from its start tells. Where its start is no node there is no row; where one of its ends is
+// no open node there is no walk, and so no distance.
 fn stale_by(
     nodes: usize,
-    served: bool,
-    row: &[u16; Job::NODES],
+    row: Option<&[u16; Job::NODES]>,
     start: u16,
     slot: Slot,
     dwell: u32,
     t: u32,
 ) -> bool
     requires { nodes ≤ node_limit }
-    ensures { Answers result (StaleBy nodes served row.now start dwell t slot) }
+    ensures { Answers result (StaleBy nodes (option_copied row.entry) start dwell t slot) }
 {
-    let goal = slot.goal as usize;
     if !stands_from(slot, start, dwell, t) {
         return false;
     }
-    if !served {
+    let Some(row) = row else {
         return true;
-    }
+    };
+    let goal = slot.goal as usize;
     if goal >= nodes {
         return true;
     }
@@ -74,31 +62,27 @@ fn stale_by(
     true
 }
 
-// The lowest slot from a place on, and before another, that the row from this start tells to be stale; that
-// other place if there is none.
+// The lowest slot from a place on, and before another, that the row from this start tells to be stale, if
+// there is one.
 fn lowest_by(
     nodes: usize,
-    served: bool,
-    row: &[u16; Job::NODES],
+    row: Option<&[u16; Job::NODES]>,
     start: u16,
     slots: [Slot; Book::SLOTS],
     dwell: u32,
     t: u32,
     from: usize,
-    lowest: usize,
-) -> usize
-    requires { (nodes ≤ node_limit) × (lowest ≤ slot_count) }
-    ensures { LowestBy nodes served row.now start dwell t slots from lowest result }
+    end: usize,
+) -> Option<usize>
+    requires { (nodes ≤ node_limit) × (end ≤ slot_count) }
+    ensures { LowestBy nodes (option_copied row.entry) start dwell t slots from end result }
 {
-    let mut p = from;
-    while p < lowest {
-        let slot = slots[p];
-        if stale_by(nodes, served, row, start, slot, dwell, t) {
-            return p;
+    for p in from..end {
+        if stale_by(nodes, row, start, slots[p], dwell, t) {
+            return Some(p);
         }
-        p += 1;
     }
-    lowest
+    None
 }
 
 // One slot more: where it stands and none before it with its start does, all that stand and have its start
@@ -125,17 +109,8 @@ fn sieve(
         return lowest;
     }
     let served = walk::distances(network, start, &mut row);
-    lowest_by(
-        network.nodes,
-        served,
-        &row,
-        start,
-        slots,
-        dwell,
-        t,
-        i,
-        lowest,
-    )
+    let told = served.then_some(&row);
+    lowest_by(network.nodes, told, start, slots, dwell, t, i, lowest).unwrap_or(lowest)
 }
 
 // 17, at the lowest slot. The loop ends when all slots below the lowest stale one that was found are judged.

@@ -4,8 +4,7 @@
 ghost use Rattle.admission.specs.Steps.{OnRows, TickFor};
 
 use crate::rows::{Rows, pair_for};
-use hall::Place;
-use rule::{Held, Pair, first_tick, hold};
+use rule::{Held, first_tick};
 use slots::{Book, Slot};
 
 // The smallest tick from now up that every carrier held permits to a move with these rows.
@@ -19,18 +18,7 @@ pub(crate) fn first_for(
     requires { OnRows slots }
     ensures { TickFor rows.now own dwell from slots result }
 {
-    let nobody = Held {
-        tick: 0,
-        pair: Pair {
-            ss: 0,
-            gg: 0,
-            ii: 0,
-            jj: 0,
-            ij: 0,
-            ji: 0,
-        },
-    };
-    let mut held = [nobody; Book::SLOTS];
+    let mut held = [Held::default(); Book::SLOTS];
     for i in 0..Book::SLOTS {
         let slot = slots[i];
         held[i] = Held {
