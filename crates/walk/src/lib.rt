@@ -31,10 +31,10 @@
 // Working memory: some twenty numbers, and no list. The row is the caller's.
 #![tactic(auto)]
 
-ghost use Rattle.std.specs.Prelude.{◌≤◌, ◌<◌, ◌≡◌, true, ◌++◌, length, replicate, drop};
+ghost use Rattle.std.specs.Prelude.{◌≤◌, ◌<◌, ◌≡◌, true, ℕ, length, get_or};
 ghost use Rattle.hall.specs.Floor.{network_in, lanes_in};
 ghost use Rattle.walk.specs.Row.{RowServed, RowFilled, Rowed};
-ghost use Rattle.walk.specs.Sweep.{unreached_mark, Shut, Settled};
+ghost use Rattle.walk.specs.Sweep.{Shut, Settled};
 ghost use Rattle.walk.specs.Sweep.{Greatest, Clean, Looked, OnlyFell, Sweepable, LanesSwept};
 
 use hall::{Job, Network};
@@ -45,6 +45,33 @@ const UNREACHED: u16 = 65534;
 
 // The most rounds that go before the sweeps.
 const ROUNDS: usize = 5;
+
+// A lane list with the greatest of its numbers, by which a walk sees whether both ends of every lane are nodes,
+// and need not test them lane by lane.
+#[derive(Clone, Copy)]
+struct Lanes<'a> {
+    list: &'a [u16],
+    top: u16,
+    ghost most: { (i : ℕ) → i < length list.now → get_or list.now i 0 ≤ top },
+}
+
+impl<'a> Lanes<'a> {
+    fn of(list: &'a [u16]) -> Lanes<'a>
+        ensures { result.list.now ≡ list.now }
+    {
+        Lanes {
+            list,
+            top: greatest(list),
+        }
+    }
+
+    // Whether every number of the list is one of so many nodes.
+    fn are_clean(&self, nodes: usize) -> bool
+        ensures { Clean nodes self.now.list.now result }
+    {
+        (self.top as usize) < nodes
+    }
+}
 
 // The places of the closed nodes get the mark for "no walk". An entry that is no node is passed over.
 fn shut(closed: &[u16], row: &mut [u16])
@@ -116,19 +143,20 @@ fn look(clean: bool, a: u16, b: u16, row: &mut [u16]) -> bool
 // first `todo`, from the last of them to the first. The answer is how many lanes it had left out or looked
 // at before the one at which a label fell last, 0 if none fell: these are the lanes of the next sweep,
 // which goes the other way.
-fn sweep(clean: bool, lanes: &[u16], back: bool, todo: usize, row: &mut [u16]) -> usize
-    requires { Clean (length row.old) lanes.now clean
-        × Sweepable (length row.old) lanes.now back todo row.old }
-    ensures { LanesSwept (length row.old) lanes.now back
+fn sweep(lanes: &Lanes, back: bool, todo: usize, row: &mut [u16]) -> usize
+    requires { Sweepable (length row.old) lanes.now.list.now back todo row.old }
+    ensures { LanesSwept (length row.old) lanes.now.list.now back
         row.old row.new result }
 {
-    let count = lanes.len() / 2;
+    let clean = lanes.are_clean(row.len());
+    let list = lanes.list;
+    let count = list.len() / 2;
     let mut next: usize = 0;
     for rest in (0..todo).rev() {
         let done = count - 1 - rest;
         let k = if back { rest } else { done };
-        let a = lanes[2 * k];
-        let b = lanes[2 * k + 1];
+        let a = list[2 * k];
+        let b = list[2 * k + 1];
         if look(clean, a, b, row) {
             next = done;
         }
@@ -160,16 +188,15 @@ fn spread(lanes: &[u16], sum: usize, row: &mut [u16]) -> usize
 // node, as a line and a grid have: there sweeps alone take less time. Nor is there another after one in
 // which at most twice as many labels fell as in the one before: few nodes are then reached at a time, as in
 // a grid with diagonals, and a round would look at all lanes for them.
-fn spread_near(clean: bool, lanes: &[u16], row: &mut [u16])
-    requires { Clean (length row.old) lanes.now clean }
-    ensures { OnlyFell (length row.old) lanes.now row.old row.new }
+fn spread_near(lanes: &Lanes, row: &mut [u16])
+    ensures { OnlyFell (length row.old) lanes.now.list.now row.old row.new }
 {
-    if !clean || lanes.len() / 6 < row.len() {
+    if !lanes.are_clean(row.len()) || lanes.list.len() / 6 < row.len() {
         return;
     }
     let mut before: usize = 0;
     for far in 0..ROUNDS {
-        let fell = spread(lanes, UNREACHED as usize + far, row);
+        let fell = spread(lanes.list, UNREACHED as usize + far, row);
         if fell <= 2 * before {
             return;
         }
@@ -187,21 +214,19 @@ fn reach(network: &Network, source: u16, row: &mut [u16]) -> usize
         row.old row.new
         × (result ≤ network.now.nodes) }
 {
-    let lanes = network.lanes;
+    let lanes = Lanes::of(network.lanes);
     let place = source as usize;
-    let top = greatest(lanes) as usize;
-    let clean = top < network.nodes;
     row.fill(UNREACHED);
     shut(network.closed, row);
     if row[place] == UNREACHED {
         row[place] = 0;
     }
-    spread_near(clean, lanes, row);
+    spread_near(&lanes, row);
     let mut sweeps: usize = 0;
     let mut back = false;
-    let mut todo = lanes.len() / 2;
+    let mut todo = network.lanes.len() / 2;
     while todo > 0 {
-        todo = sweep(clean, lanes, back, todo, row);
+        todo = sweep(&lanes, back, todo, row);
         back = !back;
         sweeps += 1;
     }

@@ -6,15 +6,9 @@ use Rattle.std.proofs.lemmas.List.{length-replicate}
 use Rattle.hall.specs.Floor.{Network, network_in}
 use Rattle.walk.specs.Sweep.{unreached_mark, Shut, OnlyFell}
 use Rattle.walk.proofs.WalkBegun.{Begun, begun_open, begun_closed, Unswept, unswept_spread}
-use Rattle.walk.proofs.WalkGreatest.{clean_greatest}
 use Rattle.walk.proofs.WalkReach.{walking_first, walking_swept, walking_done}
 use Rattle.walk.proofs.reach.Goals as goal
 use Rattle.walk.proofs.reach.Goals.{then-row-place, else-row-place}
-
-pub spread_near-requires : goal.spread_near-requires
-spread_near-requires c =
-    let long : length c.if-row-place.row ≡ c.args.network.now.nodes = omega arith in
-    rw long (clean_greatest _ c.args.network.now.lanes.now c.greatest-top.ensures)
 
 pub loop-todo-init : goal.loop-todo-init
 loop-todo-init c =
@@ -27,14 +21,14 @@ loop-todo-init c =
       | then-row-place w ↦ rw w.row-is (begun_open network c.args.row.now exact shut c.args.source c.requires.0.numbered w.if-row-place.true)
       | else-row-place w ↦ rw w.row-is (begun_closed network c.args.row.now exact shut c.args.source w.if-row-place.false)
     ] in
-    let only : OnlyFell network.nodes network.lanes c.if-row-place.row c.spread_near.new.row = rw long at c.spread_near.ensures in
+    let only : OnlyFell network.nodes network.lanes c.if-row-place.row c.spread_near.new.row = rw (long, c.of-lanes.ensures) at c.spread_near.ensures in
     let unswept : Unswept network c.args.source c.args.row.now c.spread_near.new.row = unswept_spread begun only in
     (walking_first c.requires.0 unswept, unswept)
 
 pub sweep-todo-requires : goal.sweep-todo-requires
 sweep-todo-requires c =
-    let long : length c.loop-todo.row ≡ c.args.network.now.nodes = omega arith in
-    rw long (clean_greatest _ c.args.network.now.lanes.now c.greatest-top.ensures, c.loop-todo.invariant.0.sweepable)
+    let long : length c.loop-todo.row ≡ c.args.network.now.nodes = omega (arith, c.requires.1) in
+    rw (long, c.of-lanes.ensures) c.loop-todo.invariant.0.sweepable
 
 pub overflow_add-sweeps : goal.overflow_add-sweeps
 overflow_add-sweeps c = omega (arith, c.loop-todo.invariant.0.few, c.requires.0.few)
@@ -45,7 +39,7 @@ loop-todo-smaller c = omega (arith, c.loop-todo.invariant.0.more (omega arith))
 pub loop-todo-preserved : goal.loop-todo-preserved
 loop-todo-preserved c =
     let long : length c.loop-todo.row ≡ c.args.network.now.nodes = omega (arith, c.requires.1) in
-    (walking_swept c.loop-todo.invariant.0 (rw long at c.sweep-todo.ensures) (omega arith), c.loop-todo.invariant.1)
+    (walking_swept c.loop-todo.invariant.0 (rw (long, c.of-lanes.ensures) at c.sweep-todo.ensures) (omega arith), c.loop-todo.invariant.1)
 
 pub returns : goal.returns
 returns c =

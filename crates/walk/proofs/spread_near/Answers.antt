@@ -3,8 +3,8 @@ use Rattle.std.proofs.Common.{arith}
 use Rattle.walk.proofs.WalkFalls.{only_fell_none, only_fell_then}
 use Rattle.walk.proofs.spread_near.Goals as goal
 
-pub returns-then-not-clean : goal.returns-then-not-clean
-returns-then-not-clean c = only_fell_none
+pub returns-then-not-are_clean : goal.returns-then-not-are_clean
+returns-then-not-are_clean c = only_fell_none
 
 pub loop-far-init : goal.loop-far-init
 loop-far-init c = (only_fell_none, omega arith)

@@ -6,4 +6,4 @@ use Rattle.walk.specs.Sweep.{OnlyFell}
 use Rattle.walk.proofs.spread_near.Given as goal
 
 abbrev pub invariant-loop-far : goal.invariant-loop-far
-invariant-loop-far l = OnlyFell (length l.initial.row) l.lanes l.initial.row l.row × (l.before ≤ lanes_in l.lanes)
+invariant-loop-far l = OnlyFell (length l.initial.row) l.lanes.list.now l.initial.row l.row × (l.before ≤ lanes_in l.lanes.list.now)

@@ -4,4 +4,4 @@ use Rattle.walk.proofs.WalkSweep.{Sweeping}
 use Rattle.walk.proofs.sweep.Given as goal
 
 abbrev pub invariant-loop-rest : goal.invariant-loop-rest
-invariant-loop-rest l = Sweeping (length l.initial.row) l.lanes l.back l.initial.row l.row l.rest l.next
+invariant-loop-rest l = Sweeping (length l.initial.row) l.list l.back l.initial.row l.row l.rest l.next
