@@ -2,223 +2,110 @@
 // numbers say how long each lent table is, and which carrier or move is asked about; its lists are the ones
 // to judge, or to choose from.
 use asks::{house_for, judge_for};
-use hall::Carrier;
+use hall::{Carrier, Ends, JobNumbers, Network, Refusal};
 use path::{choose, house, judge};
 use planner::plan_moves;
 use std::io;
 use std::io::Write;
-use try_batch::marked::{
-    lend_bytes, lend_numbers, lend_shorts, marked_bytes, marked_shorts, print_runs, print_written,
-};
-use try_batch::payload::{behind_list, list_room, loaded_list, rest, short_at};
+use try_batch::kind::Kind;
+use try_batch::marked::{BYTE_MARK, MARK, PLACES, TEXT_ROOM, lend, print_runs, print_written};
+use try_batch::payload::{LIST_ROOM, behind_list, filled, loaded_list, rest, short_at};
 use try_batch::print;
-use writer::{Written, write_numbers};
+use writer::write_numbers;
 
-pub(crate) fn ask<W: Write>(
-    out: &mut W,
-    kind: u8,
-    s: &[u8],
-    nodes: usize,
-    lanes: &[u16],
-    closed: &[u16],
-    moves: &[u16],
-    order: &[u16],
-    dwell: usize,
-) -> io::Result<()> {
+pub(crate) fn ask<W: Write>(out: &mut W, kind: Kind, s: &[u8], job: &JobNumbers) -> io::Result<()> {
+    let network = &job.network;
     match kind {
-        b't' => plan(out, s, nodes, lanes, closed, moves, order, dwell),
-        b'H' => print_house_for(out, s, nodes, lanes, closed, moves, order, dwell),
-        b'Q' => print_judged_for(out, s, nodes, lanes, closed, moves, order, dwell),
-        b'W' | b'x' => write(out, s, nodes, lanes, closed, moves, order, dwell),
-        b'q' => print_judged(out, s, nodes, lanes, closed),
-        b'n' => {
-            print_house(out, s, nodes, lanes, closed)?;
-            print_judged(out, s, nodes, lanes, closed)
+        Kind::PlanNumbers => plan(out, s, job),
+        Kind::HouseForText => print_house_for(out, s, job),
+        Kind::JudgeForText => print_judged_for(out, s, job),
+        Kind::WriteText | Kind::WriteNumbers => write(out, s, job),
+        Kind::JudgeText => print_judged(out, s, network),
+        Kind::HouseJudgeNumbers => {
+            print_house(out, s, network)?;
+            print_judged(out, s, network)
         }
-        b'C' | b'c' => print_chosen(out, s, nodes, lanes, closed),
-        _ => print_house(out, s, nodes, lanes, closed),
+        Kind::ChooseText | Kind::ChooseNumbers => print_chosen(out, s, network),
+        _ => print_house(out, s, network),
     }
 }
 
-fn plan<W: Write>(
-    out: &mut W,
-    s: &[u8],
-    nodes: usize,
-    lanes: &[u16],
-    closed: &[u16],
-    moves: &[u16],
-    order: &[u16],
-    dwell: usize,
-) -> io::Result<()> {
-    let mut table = marked_shorts();
-    let mut distances = [7777u16; 100];
-    let mut ticks = [7777u32; 100];
+fn plan<W: Write>(out: &mut W, s: &[u8], job: &JobNumbers) -> io::Result<()> {
+    let mut table: [u16; PLACES] = filled(MARK);
+    let mut distances: [u16; 100] = filled(MARK);
+    let mut ticks: [u32; 100] = filled(MARK as u32);
     let planned = plan_moves(
-        nodes,
-        lanes,
-        closed,
-        moves,
-        order,
-        dwell,
-        lend_shorts(&mut table, s, 0),
-        lend_shorts(&mut distances, s, 2),
-        lend_numbers(&mut ticks, s, 4),
+        job,
+        lend(&mut table, s, 0),
+        lend(&mut distances, s, 2),
+        lend(&mut ticks, s, 4),
     );
     print::planned(out, planned)?;
-    print_runs(out, b"table", &[], &table, &[])?;
-    print_runs(out, b"distances", &[], &distances, &[])?;
-    print_runs(out, b"ticks", &[], &[], &ticks)
+    print_runs(out, "table", &table)?;
+    print_runs(out, "distances", &distances)?;
+    print_runs(out, "ticks", &ticks)
 }
 
-fn print_house_for<W: Write>(
-    out: &mut W,
-    s: &[u8],
-    nodes: usize,
-    lanes: &[u16],
-    closed: &[u16],
-    moves: &[u16],
-    order: &[u16],
-    dwell: usize,
-) -> io::Result<()> {
-    let mut path = [7777u16; 1100];
-    let housed = house_for(
-        nodes,
-        lanes,
-        closed,
-        moves,
-        order,
-        dwell,
-        Carrier(short_at(s, 2)),
-        lend_shorts(&mut path, s, 0),
-    );
+fn print_house_for<W: Write>(out: &mut W, s: &[u8], job: &JobNumbers) -> io::Result<()> {
+    let mut path: [u16; 1100] = filled(MARK);
+    let housed = house_for(job, Carrier(short_at(s, 2)), lend(&mut path, s, 0));
     print::housed(out, housed)?;
-    print_runs(out, b"path", &[], &path, &[])
+    print_runs(out, "path", &path)
 }
 
-fn print_judged_for<W: Write>(
-    out: &mut W,
-    s: &[u8],
-    nodes: usize,
-    lanes: &[u16],
-    closed: &[u16],
-    moves: &[u16],
-    order: &[u16],
-    dwell: usize,
-) -> io::Result<()> {
-    let mut room = list_room();
-    let judged = judge_for(
-        nodes,
-        lanes,
-        closed,
-        moves,
-        order,
-        dwell,
-        Carrier(short_at(s, 2)),
-        loaded_list(rest(s, 8), &mut room),
-    );
-    print::judged(out, judged)
+fn print_judged_for<W: Write>(out: &mut W, s: &[u8], job: &JobNumbers) -> io::Result<()> {
+    let mut room: [u16; LIST_ROOM] = filled(0);
+    let list = loaded_list(rest(s, 8), &mut room);
+    print::judged(out, judge_for(job, Carrier(short_at(s, 2)), list))
 }
 
 // The job is written once, and then as often as the payload's second number says: the benchmark gets the time
 // of writing from that.
-fn write<W: Write>(
-    out: &mut W,
-    s: &[u8],
-    nodes: usize,
-    lanes: &[u16],
-    closed: &[u16],
-    moves: &[u16],
-    order: &[u16],
-    dwell: usize,
-) -> io::Result<()> {
-    let mut bytes = marked_bytes();
-    let answer = write_often(
-        short_at(s, 2),
-        nodes,
-        lanes,
-        closed,
-        moves,
-        order,
-        dwell,
-        lend_bytes(&mut bytes, s, 0),
-    );
+fn write<W: Write>(out: &mut W, s: &[u8], job: &JobNumbers) -> io::Result<()> {
+    let mut bytes: [u8; TEXT_ROOM] = filled(BYTE_MARK);
+    let answer = write_often(short_at(s, 2), job, lend(&mut bytes, s, 0));
     print_written(out, answer, &bytes)
 }
 
 // Each writing leaves the same in the output, and the last is answered.
-fn write_often(
-    further: u16,
-    nodes: usize,
-    lanes: &[u16],
-    closed: &[u16],
-    moves: &[u16],
-    order: &[u16],
-    dwell: usize,
-    out: &mut [u8],
-) -> Written {
-    let mut i: u16 = 0;
-    while i < further {
-        write_numbers(nodes, lanes, closed, moves, order, dwell, out);
-        i += 1;
+fn write_often(further: u16, job: &JobNumbers, out: &mut [u8]) -> Result<usize, Refusal> {
+    for _ in 0..further {
+        let _ = write_numbers(job, out);
     }
-    write_numbers(nodes, lanes, closed, moves, order, dwell, out)
+    write_numbers(job, out)
 }
 
 // ---- questions about a move
 
-fn print_house<W: Write>(
-    out: &mut W,
-    s: &[u8],
-    nodes: usize,
-    lanes: &[u16],
-    closed: &[u16],
-) -> io::Result<()> {
-    let mut path = [7777u16; 1100];
-    let lent = lend_shorts(&mut path, s, 0);
-    print::housed(
-        out,
-        house(nodes, lanes, closed, short_at(s, 2), short_at(s, 4), lent),
-    )?;
-    print_runs(out, b"path", &[], &path, &[])
+// The ends of the move that a payload asks about.
+fn ends_in(s: &[u8]) -> Ends {
+    Ends {
+        start: short_at(s, 2),
+        goal: short_at(s, 4),
+    }
 }
 
-fn print_judged<W: Write>(
-    out: &mut W,
-    s: &[u8],
-    nodes: usize,
-    lanes: &[u16],
-    closed: &[u16],
-) -> io::Result<()> {
-    let mut room = list_room();
+fn print_house<W: Write>(out: &mut W, s: &[u8], network: &Network) -> io::Result<()> {
+    let mut path: [u16; 1100] = filled(MARK);
+    let housed = house(network, ends_in(s), lend(&mut path, s, 0));
+    print::housed(out, housed)?;
+    print_runs(out, "path", &path)
+}
+
+fn print_judged<W: Write>(out: &mut W, s: &[u8], network: &Network) -> io::Result<()> {
+    let mut room: [u16; LIST_ROOM] = filled(0);
     let list = loaded_list(rest(s, 8), &mut room);
-    print::judged(
-        out,
-        judge(nodes, lanes, closed, short_at(s, 2), short_at(s, 4), list),
-    )
+    print::judged(out, judge(network, ends_in(s), list))
 }
 
 // The choice, and how long the chosen list is.
-fn print_chosen<W: Write>(
-    out: &mut W,
-    s: &[u8],
-    nodes: usize,
-    lanes: &[u16],
-    closed: &[u16],
-) -> io::Result<()> {
+fn print_chosen<W: Write>(out: &mut W, s: &[u8], network: &Network) -> io::Result<()> {
     let from = rest(s, 8);
-    let mut own_room = list_room();
-    let mut spare_room = list_room();
+    let mut own_room: [u16; LIST_ROOM] = filled(0);
+    let mut spare_room: [u16; LIST_ROOM] = filled(0);
     let own = loaded_list(from, &mut own_room);
     let spare = loaded_list(behind_list(from), &mut spare_room);
-    let chosen = choose(
-        nodes,
-        lanes,
-        closed,
-        short_at(s, 2),
-        short_at(s, 4),
-        own,
-        spare,
-    );
+    let chosen = choose(network, ends_in(s), own, spare);
     print::chosen(out, chosen, own)?;
-    print::line(out, b"", chosen.len() as u64)
+    writeln!(out, "{}", chosen.len())
 }

@@ -8,42 +8,47 @@ mod asked;
 mod text;
 
 use asked::ask;
+use hall::JobNumbers;
 use std::io;
 use std::io::Write;
-use try_batch::payload::{behind_list, body, job_room, loaded_list, long_at, rest};
-use try_batch::print;
+use try_batch::kind::Kind;
+use try_batch::payload::{
+    JOB_ROOM, behind_list, behind_network, body, filled, loaded_list, loaded_network, long_at,
+};
 
-pub fn answer<W: Write>(out: &mut W, kind: u8, s: &[u8]) -> io::Result<()> {
+pub fn answer<W: Write>(out: &mut W, kind: Kind, s: &[u8]) -> io::Result<()> {
     let from = body(s);
     match kind {
-        b'P' => text::plan(out, from),
-        b'a' => text::print_to(out, s, from),
-        b'm' => text::read(out, s, from),
-        b'H' | b'h' | b'Q' | b'q' | b'C' | b'W' => text::ask_of(out, kind, s, from),
-        b't' | b'w' | b'n' | b'c' | b'x' => ask_numbers(out, kind, s, from),
-        _ => print::word(out, b"no such kind\n"),
+        Kind::PlanText => text::plan(out, from),
+        Kind::FillText => text::print_to(out, s, from),
+        Kind::ReadText => text::read(out, s, from),
+        Kind::HouseForText
+        | Kind::HouseText
+        | Kind::JudgeForText
+        | Kind::JudgeText
+        | Kind::ChooseText
+        | Kind::WriteText => text::ask_of(out, kind, s, from),
+        _ => ask_numbers(out, kind, s, from),
     }
 }
 
 // A question about a job from numbers: nodes, lane numbers, closed nodes, moves, order and dwell.
-fn ask_numbers<W: Write>(out: &mut W, kind: u8, s: &[u8], job: &[u8]) -> io::Result<()> {
-    let mut lanes = job_room();
-    let mut closed = job_room();
-    let mut moves = job_room();
-    let mut order = job_room();
-    let network = rest(job, 4);
-    let behind_lanes = behind_list(network);
-    let carriers = behind_list(behind_lanes);
+fn ask_numbers<W: Write>(out: &mut W, kind: Kind, s: &[u8], job: &[u8]) -> io::Result<()> {
+    let mut lanes: [u16; JOB_ROOM] = filled(0);
+    let mut closed: [u16; JOB_ROOM] = filled(0);
+    let mut moves: [u16; JOB_ROOM] = filled(0);
+    let mut order: [u16; JOB_ROOM] = filled(0);
+    let carriers = behind_network(job);
     let places = behind_list(carriers);
     ask(
         out,
         kind,
         s,
-        long_at(job, 0) as usize,
-        loaded_list(network, &mut lanes),
-        loaded_list(behind_lanes, &mut closed),
-        loaded_list(carriers, &mut moves),
-        loaded_list(places, &mut order),
-        long_at(behind_list(places), 0) as usize,
+        &JobNumbers {
+            network: loaded_network(job, &mut lanes, &mut closed),
+            moves: loaded_list(carriers, &mut moves),
+            order: loaded_list(places, &mut order),
+            dwell: long_at(behind_list(places), 0) as usize,
+        },
     )
 }

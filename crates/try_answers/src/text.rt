@@ -1,51 +1,52 @@
 // The kinds with a text: what the program answers to it, what reading it leaves, and the questions about the
 // job that it has.
 use super::asked::ask;
-use hall::Job;
-use reader::{Read, read_numbers};
+use hall::{Job, JobNumbers, Network, Refusal};
+use reader::read_numbers;
 use std::io;
 use std::io::Write;
-use try_batch::marked::{lend_bytes, lend_shorts, marked_shorts, print_runs};
-use try_batch::payload::{front, least, opening, short_at};
+use try_batch::kind::Kind;
+use try_batch::marked::{BYTE_MARK, MARK, PLACES, lend, print_runs};
+use try_batch::payload::{filled, front, short_at};
 use try_batch::print;
 
 // The answer to a text, as it is printed.
 pub(crate) fn plan<W: Write>(out: &mut W, text: &[u8]) -> io::Result<()> {
     let mut room = [0u8; 2048];
     let n = report::answer(text, &mut room);
-    print::word(out, opening(&room, n))
+    out.write_all(front(&room, n))
 }
 
 // How many bytes the answer has, and what all bytes hold.
 pub(crate) fn print_to<W: Write>(out: &mut W, s: &[u8], text: &[u8]) -> io::Result<()> {
-    let mut room = [77u8; 2100];
-    let count = report::answer(text, lend_bytes(&mut room, s, 0));
-    print::line(out, b"BYTES ", count as u64)?;
-    print_runs(out, b"out", &room, &[], &[])
+    let mut room: [u8; 2100] = filled(BYTE_MARK);
+    let count = report::answer(text, lend(&mut room, s, 0));
+    writeln!(out, "BYTES {count}")?;
+    print_runs(out, "out", &room)
 }
 
 pub(crate) fn read<W: Write>(out: &mut W, s: &[u8], text: &[u8]) -> io::Result<()> {
-    let mut lanes = marked_shorts();
-    let mut closed = [7777u16; 1100];
-    let mut moves = [7777u16; 200];
-    let mut order = [7777u16; 100];
+    let mut lanes: [u16; PLACES] = filled(MARK);
+    let mut closed: [u16; 1100] = filled(MARK);
+    let mut moves: [u16; 200] = filled(MARK);
+    let mut order: [u16; 100] = filled(MARK);
     let read = read_numbers(
         text,
-        lend_shorts(&mut lanes, s, 0),
-        lend_shorts(&mut closed, s, 2),
-        lend_shorts(&mut moves, s, 4),
-        lend_shorts(&mut order, s, 6),
+        lend(&mut lanes, s, 0),
+        lend(&mut closed, s, 2),
+        lend(&mut moves, s, 4),
+        lend(&mut order, s, 6),
     );
     print::read(out, read)?;
-    print_runs(out, b"lanes", &[], &lanes, &[])?;
-    print_runs(out, b"closed", &[], &closed, &[])?;
-    print_runs(out, b"moves", &[], &moves, &[])?;
-    print_runs(out, b"order", &[], &order, &[])
+    print_runs(out, "lanes", &lanes)?;
+    print_runs(out, "closed", &closed)?;
+    print_runs(out, "moves", &moves)?;
+    print_runs(out, "order", &order)
 }
 
 // A question about the job of a text. The text is read once, and then as often as the payload's last number
 // says: the benchmark gets the time of reading from that.
-pub(crate) fn ask_of<W: Write>(out: &mut W, kind: u8, s: &[u8], text: &[u8]) -> io::Result<()> {
+pub(crate) fn ask_of<W: Write>(out: &mut W, kind: Kind, s: &[u8], text: &[u8]) -> io::Result<()> {
     let mut lanes = [0u16; Job::LANE_NUMBERS];
     let mut closed = [0u16; Job::NODES];
     let mut moves = [0u16; Job::MOVE_NUMBERS];
@@ -58,24 +59,25 @@ pub(crate) fn ask_of<W: Write>(out: &mut W, kind: u8, s: &[u8], text: &[u8]) -> 
         &mut moves,
         &mut order,
     );
-    match read {
-        Read::Job(job) => {
-            let lane_count = least(job.lanes, Job::LANES);
-            let count = least(job.carriers, Job::CARRIERS);
-            ask(
-                out,
-                kind,
-                s,
-                job.nodes,
-                front(&lanes, 2 * lane_count),
-                front(&closed, job.closed),
-                front(&moves, 2 * count),
-                front(&order, count),
-                job.dwell,
-            )
-        }
-        Read::Refused(r) => print::refused(out, r),
-    }
+    print::answer(
+        out,
+        read,
+        |out, job| ask(
+            out,
+            kind,
+            s,
+            &JobNumbers {
+                network: Network {
+                    nodes: job.nodes,
+                    lanes: front(&lanes, 2 * job.lanes.min(Job::LANES)),
+                    closed: front(&closed, job.closed),
+                },
+                moves: front(&moves, 2 * job.carriers.min(Job::CARRIERS)),
+                order: front(&order, job.carriers),
+                dwell: job.dwell,
+            },
+        ),
+    )
 }
 
 // Each reading leaves the same in the tables, and the last is answered.
@@ -86,11 +88,9 @@ fn read_often(
     closed: &mut [u16],
     moves: &mut [u16],
     order: &mut [u16],
-) -> Read {
-    let mut i: u16 = 0;
-    while i < further {
-        read_numbers(text, lanes, closed, moves, order);
-        i += 1;
+) -> Result<Job, Refusal> {
+    for _ in 0..further {
+        let _ = read_numbers(text, lanes, closed, moves, order);
     }
     read_numbers(text, lanes, closed, moves, order)
 }

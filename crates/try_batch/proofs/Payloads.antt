@@ -78,40 +78,36 @@ store_next s list i h =
     (set_at (shorts_in s i) (get_or list i 0) (drop (suc i) list) (short_in s (2 * i)) i (shorts_length s i)
     ∙ sym (append_assoc (shorts_in s i) (short_in s (2 * i) ∷ []) (drop (suc i) list)))
 
--- a list into which numbers are being loaded, n in all, now has the first i of them
-pub record ShortsLoaded (s : List ℕ) (count : ℕ) (list : List ℕ) (n : ℕ) (list' : List ℕ) (i : ℕ)
-    : Type 0 where
-  -- no more than there are to load
-  pub within : i ≤ n
-  -- as many as the count says and the list has places
-  pub all : n ≡ min count (length list)
+-- a list into which numbers are being loaded now has the first i of them
+pub record ShortsLoaded (s : List ℕ) (count : ℕ) (list list' : List ℕ) (i : ℕ) : Type 0 where
+  -- no more than the count says and the list has places
+  pub within : i ≤ min count (length list)
   -- they stand at the front, and what the list held stands behind them
   pub stand : list' ≡ shorts_in s i ++ drop i list
 
-module _ {s : List ℕ} {count : ℕ} {list : List ℕ} {n : ℕ} where
-  pub shorts_none : n ≡ min count (length list) → ShortsLoaded s count list n list 0
+module _ {s : List ℕ} {count : ℕ} {list : List ℕ} where
+  pub shorts_none : ShortsLoaded s count list list 0
   unfolding shorts_in
-  shorts_none e = record { within = omega arith; all = e; stand = refl }
+  shorts_none = record { within = omega arith; stand = refl }
 
-  module _ {list' : List ℕ} {i : ℕ} (l : ShortsLoaded s count list n list' i) where
+  module _ {list' : List ℕ} {i : ℕ} (l : ShortsLoaded s count list list' i) where
     pub shorts_kept : length list' ≡ length list
     shorts_kept =
         let long = length-append (shorts_in s i) (drop i list) in
-        ap length l.stand ∙ omega (arith, long, shorts_length s i, length-drop i list, l.within, l.all)
+        ap length l.stand ∙ omega (arith, long, shorts_length s i, length-drop i list, l.within)
 
-    pub shorts_more : i < n → {x : ℕ} → x ≡ short_in s (2 * i)
-        → ShortsLoaded s count list n (set list' i x) (i + 1)
+    pub shorts_more : i < min count (length list) → {x : ℕ} → x ≡ short_in s (2 * i)
+        → ShortsLoaded s count list (set list' i x) (i + 1)
     shorts_more h e =
         record {
           within = omega arith;
-          all = l.all;
-          stand = (λ k. set (l.stand k) i (e k)) ∙ store_next s list i (omega (arith, l.all));
+          stand = (λ k. set (l.stand k) i (e k)) ∙ store_next s list i (omega arith);
         }
 
-    pub shorts_whole : n ≤ i → list' ≡ shorts_over s count list
+    pub shorts_whole : min count (length list) ≤ i → list' ≡ shorts_over s count list
     unfolding shorts_over
     shorts_whole h =
-        let e : i ≡ min count (length list) = omega (arith, l.within, l.all) in
+        let e : i ≡ min count (length list) = omega (arith, l.within) in
         let rest = drop_cut i count list (omega arith) in
         l.stand ∙ λ k. shorts_in s (e k) ++ rest k
 

@@ -3,13 +3,14 @@
 // questions whether a move may go (`G`), all to the same book. How many there are is the payload's first
 // number. The second says whether the book is told after each of them or after the last one only, and the
 // third how many times more each is made on the book that it meets: the benchmark gets their times from that.
-use admission::Answer;
-use admission::ask::Asked;
+use admission::Stepped;
+use hall::{Ends, Network};
 use slots::{Book, Slot};
 use std::io;
 use std::io::Write;
+use try_batch::kind::Kind;
 use try_batch::marked::print_runs;
-use try_batch::payload::{behind_list, job_room, loaded_list, long_at, rest, short_at};
+use try_batch::payload::{JOB_ROOM, behind_job, filled, loaded_network, long_at, rest, short_at};
 use try_batch::print;
 use try_book::{admit_lent, may_start_lent};
 
@@ -19,6 +20,9 @@ const SLOT_BYTES: usize = 10;
 pub(crate) const BOOK_BYTES: usize = 648;
 
 const CALL_BYTES: usize = 8;
+
+// The clock and the dwell of a book, and four numbers of each slot.
+const BOOK_NUMBERS: usize = 258;
 
 fn slot_at(s: &[u8], at: usize) -> Slot {
     let part = rest(s, at);
@@ -32,49 +36,49 @@ fn slot_at(s: &[u8], at: usize) -> Slot {
 
 // The book at the front of a payload: its clock, its dwell and its slots.
 pub(crate) fn book_at(s: &[u8]) -> Book {
-    let free = Slot::free();
-    let mut slots = [free; Book::SLOTS];
-    let mut i: usize = 0;
-    while i < Book::SLOTS {
-        slots[i] = slot_at(s, 8 + SLOT_BYTES * i);
-        i += 1;
+    let mut slots: [Slot; Book::SLOTS] = filled(Slot::free());
+    for (i, slot) in slots.iter_mut().enumerate() {
+        *slot = slot_at(s, 8 + SLOT_BYTES * i);
     }
     Book::with_slots(long_at(s, 0), long_at(s, 4), slots)
 }
 
-// The numbers of a book, in the order in which a payload has them. The slots come by themselves, since of an
-// array that lies in a struct a function does not know the length.
-pub(crate) fn print_book<W: Write>(
-    out: &mut W,
-    clock: u32,
-    dwell: u32,
-    slots: [Slot; Book::SLOTS],
-) -> io::Result<()> {
-    let mut numbers = [0u32; 258];
-    numbers[0] = clock;
-    numbers[1] = dwell;
-    let mut i: usize = 0;
-    while i < Book::SLOTS {
-        let slot = slots[i];
-        let at = 2 + 4 * i;
-        numbers[at] = slot.start as u32;
-        numbers[at + 1] = slot.goal as u32;
-        numbers[at + 2] = slot.distance as u32;
-        numbers[at + 3] = slot.tick;
-        i += 1;
+// The numbers of a book, in the order in which a payload has them.
+fn print_book<W: Write>(out: &mut W, book: &Book) -> io::Result<()> {
+    let mut numbers: [u32; BOOK_NUMBERS] = filled(0);
+    numbers[0] = book.clock;
+    numbers[1] = book.dwell;
+    for (slot, of_it) in book.slots.iter().zip(numbers[2..].chunks_exact_mut(4)) {
+        of_it.copy_from_slice(&[
+            slot.start as u32,
+            slot.goal as u32,
+            slot.distance as u32,
+            slot.tick,
+        ]);
     }
-    print_runs(out, b"book", &[], &[], &numbers)
+    print_runs(out, "book", &numbers)
 }
 
-fn print_answer<W: Write>(out: &mut W, answer: Answer) -> io::Result<()> {
-    match answer {
-        Answer::Starts(entry) => {
-            print::word(out, b"STARTS ")?;
-            print::number(out, entry.tick as u64)?;
-            print::line(out, b" ", entry.slot as u64)
+// Calls, questions or trolleys one after the other, as many as the payload's first number says: what each
+// leaves is the book that the next one finds. The book is told at the end, and where it is to be told after
+// each also before each but the first.
+pub(crate) fn one_after_another<W: Write, F: FnMut(&mut W, Book) -> io::Result<Book>>(
+    out: &mut W,
+    s: &[u8],
+    book: Book,
+    mut next: F,
+) -> io::Result<()>
+    requires { F.IsAlwaysCallable next }
+{
+    let every = short_at(s, 2);
+    let mut held = book;
+    for i in 0..short_at(s, 0) {
+        if 0 < i && 0 < every {
+            print_book(out, &held)?;
         }
-        Answer::Refused(r) => print::refused(out, r),
+        held = next(out, held)?;
     }
+    print_book(out, &held)
 }
 
 // One call: its answer is printed, and what it leaves is the result. Further calls on the same book have the
@@ -83,30 +87,20 @@ pub(crate) fn call<W: Write>(
     out: &mut W,
     further: u16,
     clock: u32,
-    start: u16,
-    goal: u16,
-    nodes: usize,
-    lanes: &[u16],
-    closed: &[u16],
+    network: &Network,
+    ends: Ends,
     book: Book,
 ) -> io::Result<Book> {
-    let mut i: u16 = 0;
-    while i < further {
-        admit_lent(book, clock, nodes, lanes, closed, start, goal);
-        i += 1;
+    for _ in 0..further {
+        admit_lent(book, clock, network, ends);
     }
-    let done = admit_lent(book, clock, nodes, lanes, closed, start, goal);
-    let answer = done.answer;
-    print_answer(out, answer)?;
-    Ok(done.book)
-}
-
-fn print_asked<W: Write>(out: &mut W, answer: Asked) -> io::Result<()> {
-    match answer {
-        Asked::May => print::word(out, b"MAY\n"),
-        Asked::Forbids(slot) => print::line(out, b"FORBIDS ", slot as u64),
-        Asked::Refused(r) => print::refused(out, r),
-    }
+    let Stepped { answer, book } = admit_lent(book, clock, network, ends);
+    print::answer(
+        out,
+        answer,
+        |out, entry| writeln!(out, "STARTS {} {}", entry.tick, entry.slot),
+    )?;
+    Ok(book)
 }
 
 // One question whether a move may go at a tick: its answer is printed. Further ones have the same answer.
@@ -114,91 +108,54 @@ fn ask<W: Write>(
     out: &mut W,
     further: u16,
     t: u32,
-    start: u16,
-    goal: u16,
-    nodes: usize,
-    lanes: &[u16],
-    closed: &[u16],
+    network: &Network,
+    ends: Ends,
     book: Book,
 ) -> io::Result<()> {
-    let mut i: u16 = 0;
-    while i < further {
-        may_start_lent(book, t, nodes, lanes, closed, start, goal);
-        i += 1;
+    for _ in 0..further {
+        let _ = may_start_lent(book, t, network, ends);
     }
-    let answer = may_start_lent(book, t, nodes, lanes, closed, start, goal);
-    print_asked(out, answer)
+    let answer = may_start_lent(book, t, network, ends);
+    print::answer(out, answer, |out, forbids| match forbids {
+        None => writeln!(out, "MAY"),
+        Some(slot) => writeln!(out, "FORBIDS {slot}"),
+    })
 }
 
 // A call or a question, whose tick stands where a call has its clock value, and the book that the next one
 // finds.
 fn one<W: Write>(
     out: &mut W,
-    kind: u8,
+    kind: Kind,
     further: u16,
     s: &[u8],
-    nodes: usize,
-    lanes: &[u16],
-    closed: &[u16],
+    network: &Network,
     book: Book,
 ) -> io::Result<Book> {
     let clock = long_at(s, 0);
-    let start = short_at(s, 4);
-    let goal = short_at(s, 6);
-    if kind == b'G' {
-        ask(out, further, clock, start, goal, nodes, lanes, closed, book)?;
+    let ends = Ends {
+        start: short_at(s, 4),
+        goal: short_at(s, 6),
+    };
+    if let Kind::MayStart = kind {
+        ask(out, further, clock, network, ends, book)?;
         return Ok(book);
     }
-    call(out, further, clock, start, goal, nodes, lanes, closed, book)
-}
-
-// The calls or questions one after the other. The book is told at the end, and where it is to be told after
-// each also before each but the first.
-fn call_all<W: Write>(
-    out: &mut W,
-    kind: u8,
-    s: &[u8],
-    calls: &[u8],
-    nodes: usize,
-    lanes: &[u16],
-    closed: &[u16],
-    book: Book,
-) -> io::Result<()> {
-    let count = short_at(s, 0);
-    let every = short_at(s, 2);
-    let further = short_at(s, 4);
-    let mut held = book;
-    let mut i: u16 = 0;
-    while i < count {
-        if 0 < i && 0 < every {
-            let slots = held.slots;
-            print_book(out, held.clock, held.dwell, slots)?;
-        }
-        let from = rest(calls, CALL_BYTES * i as usize);
-        held = one(out, kind, further, from, nodes, lanes, closed, held)?;
-        i += 1;
-    }
-    let slots = held.slots;
-    print_book(out, held.clock, held.dwell, slots)
+    call(out, further, clock, network, ends, book)
 }
 
 // A case of either kind. Its network is a job without moves and order, and the book stands behind the job's
 // dwell.
-pub(crate) fn admit<W: Write>(out: &mut W, kind: u8, s: &[u8], job: &[u8]) -> io::Result<()> {
-    let network = rest(job, 4);
-    let behind_lanes = behind_list(network);
-    let places = behind_list(behind_list(behind_lanes));
-    let from = rest(behind_list(places), 4);
-    let mut lane_space = job_room();
-    let mut closed_space = job_room();
-    call_all(
-        out,
-        kind,
-        s,
-        rest(from, BOOK_BYTES),
-        long_at(job, 0) as usize,
-        loaded_list(network, &mut lane_space),
-        loaded_list(behind_lanes, &mut closed_space),
-        book_at(from),
-    )
+pub(crate) fn admit<W: Write>(out: &mut W, kind: Kind, s: &[u8], job: &[u8]) -> io::Result<()> {
+    let mut lane_room: [u16; JOB_ROOM] = filled(0);
+    let mut closed_room: [u16; JOB_ROOM] = filled(0);
+    let network = loaded_network(job, &mut lane_room, &mut closed_room);
+    let from = behind_job(job);
+    let further = short_at(s, 4);
+    let mut calls = rest(from, BOOK_BYTES);
+    one_after_another(out, s, book_at(from), |out, book| {
+        let call = calls;
+        calls = rest(call, CALL_BYTES);
+        one(out, kind, further, call, &network, book)
+    })
 }

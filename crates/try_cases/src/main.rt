@@ -10,15 +10,20 @@ mod trolleys;
 use std::io;
 use std::io::{BufWriter, Read, Write};
 use try_answers::answer;
-use try_batch::payload::{body, opening};
-use try_batch::{Head, next_case, payload_room};
+use try_batch::kind::Kind;
+use try_batch::payload::{body, filled, front};
+use try_batch::{PAYLOAD_ROOM, next_case};
 
-fn answer_case<W: Write>(out: &mut W, kind: u8, s: &[u8]) -> io::Result<()> {
+fn answer_case<W: Write>(out: &mut W, letter: u8, s: &[u8]) -> io::Result<()> {
+    let Ok(kind) = Kind::try_from(letter) else {
+        return writeln!(out, "no such kind");
+    };
     match kind {
-        b'B' | b'G' => booked::admit(out, kind, s, body(s)),
-        b'T' => trolleys::admit_all(out, s, body(s)),
-        b'r' => on_records::read(out, s, body(s)),
-        b'p' | b'o' | b'j' | b'y' => on_records::ask(out, kind, s, body(s)),
+        Kind::Admit | Kind::MayStart => booked::admit(out, kind, s, body(s)),
+        Kind::Trolleys => trolleys::admit_all(out, s, body(s)),
+        Kind::ReadRecords => on_records::read(out, s, body(s)),
+        Kind::PlanRecords | Kind::HouseRecords | Kind::JudgeRecords | Kind::WriteRecords =>
+            on_records::ask(out, kind, s, body(s)),
         _ => answer(out, kind, s),
     }
 }
@@ -26,14 +31,12 @@ fn answer_case<W: Write>(out: &mut W, kind: u8, s: &[u8]) -> io::Result<()> {
 // A proved loop has to end, and nothing says that the input does. So the loop counts its turns, up to a
 // number that no run uses up.
 fn answer_all<R: Read, W: Write>(input: &mut R, out: &mut W) -> io::Result<()> {
-    let mut space = payload_room();
-    let mut number: u64 = 0;
-    while number < 1000000000 {
-        let Head::Case(kind, count) = next_case(input, out, number, &mut space)? else {
+    let mut space: [u8; PAYLOAD_ROOM] = filled(0);
+    for number in 0..1000000000 {
+        let Some(case) = next_case(input, out, number, &mut space)? else {
             return Ok(());
         };
-        answer_case(out, kind, opening(&space, count))?;
-        number += 1;
+        answer_case(out, case.kind, front(&space, case.count))?;
     }
     Ok(())
 }

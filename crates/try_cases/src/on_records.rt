@@ -2,178 +2,140 @@
 // goals, the distances, the ticks (crate `try_columns`). A job with records has them behind its dwell and no
 // moves, and how many of the 80 are lent is the payload's last number. What a question left in the records is
 // printed where it may change them; those that get a shared list cannot.
-use hall::Carrier;
+use hall::{Carrier, Network};
 use records::Record;
 use std::io;
 use std::io::Write;
-use try_batch::marked::{
-    lend_bytes, lend_shorts, marked_bytes, marked_shorts, print_runs, print_written,
+use try_batch::kind::Kind;
+use try_batch::marked::{BYTE_MARK, MARK, PLACES, TEXT_ROOM, lend, print_runs, print_written};
+use try_batch::payload::{
+    JOB_ROOM, LIST_ROOM, behind_job, behind_list, behind_network, filled, loaded_list,
+    loaded_network, long_at, rest, short_at,
 };
-use try_batch::payload::{behind_list, job_room, list_room, loaded_list, long_at, rest, short_at};
 use try_batch::print;
 use try_columns::{LENDABLE, made};
 use try_records::{house_lent, judge_lent, plan_lent, read_lent, write_lent};
 
+// So many numbers have the records.
+const FIELDS: usize = 320;
+
+// A job with records, of which so many are lent.
+#[derive(Clone, Copy)]
+struct Recorded<'a> {
+    network: Network<'a>,
+    count: usize,
+    order: &'a [u16],
+    dwell: usize,
+    records: [Record; LENDABLE],
+}
+
 pub(crate) fn read<W: Write>(out: &mut W, s: &[u8], text: &[u8]) -> io::Result<()> {
-    let mut lanes = marked_shorts();
-    let mut closed = [7777u16; 1100];
-    let mut order = [7777u16; 100];
-    let mut fields = [7777u32; 320];
+    let mut lanes: [u16; PLACES] = filled(MARK);
+    let mut closed: [u16; 1100] = filled(MARK);
+    let mut order: [u16; 100] = filled(MARK);
+    let mut fields: [u32; FIELDS] = filled(MARK as u32);
     let records = made(&fields);
     let read = read_lent(
         text,
-        lend_shorts(&mut lanes, s, 0),
-        lend_shorts(&mut closed, s, 2),
+        lend(&mut lanes, s, 0),
+        lend(&mut closed, s, 2),
         short_at(s, 4) as usize,
-        lend_shorts(&mut order, s, 6),
+        lend(&mut order, s, 6),
         records,
         &mut fields,
     );
     print::read(out, read)?;
-    print_runs(out, b"lanes", &[], &lanes, &[])?;
-    print_runs(out, b"closed", &[], &closed, &[])?;
-    print_runs(out, b"records", &[], &[], &fields)?;
-    print_runs(out, b"order", &[], &order, &[])
+    print_runs(out, "lanes", &lanes)?;
+    print_runs(out, "closed", &closed)?;
+    print_runs(out, "records", &fields)?;
+    print_runs(out, "order", &order)
 }
 
 // The records whose numbers stand at the front of a payload, of four bytes each.
 fn records_at(s: &[u8]) -> [Record; LENDABLE] {
-    let mut fields = [0u32; 320];
-    let mut i: usize = 0;
-    while i < 320 {
-        fields[i] = long_at(s, 4 * i);
-        i += 1;
+    let mut fields: [u32; FIELDS] = filled(0);
+    for (i, field) in fields.iter_mut().enumerate() {
+        *field = long_at(s, 4 * i);
     }
     made(&fields)
 }
 
 // A question about a job with records.
-pub(crate) fn ask<W: Write>(out: &mut W, kind: u8, s: &[u8], job: &[u8]) -> io::Result<()> {
-    let network = rest(job, 4);
-    let behind_lanes = behind_list(network);
-    let places = behind_list(behind_list(behind_lanes));
-    let behind = behind_list(places);
-    let nodes = long_at(job, 0) as usize;
-    let dwell = long_at(behind, 0) as usize;
-    let mut lane_space = job_room();
-    let mut closed_space = job_room();
-    let mut order_space = job_room();
-    let count = short_at(s, 6) as usize;
-    let records = records_at(rest(behind, 4));
-    let lanes = loaded_list(network, &mut lane_space);
-    let closed = loaded_list(behind_lanes, &mut closed_space);
-    let order = loaded_list(places, &mut order_space);
+pub(crate) fn ask<W: Write>(out: &mut W, kind: Kind, s: &[u8], job: &[u8]) -> io::Result<()> {
+    let mut lane_room: [u16; JOB_ROOM] = filled(0);
+    let mut closed_room: [u16; JOB_ROOM] = filled(0);
+    let mut order_room: [u16; JOB_ROOM] = filled(0);
+    let places = behind_list(behind_network(job));
+    let recorded = Recorded {
+        network: loaded_network(job, &mut lane_room, &mut closed_room),
+        count: short_at(s, 6) as usize,
+        order: loaded_list(places, &mut order_room),
+        dwell: long_at(behind_list(places), 0) as usize,
+        records: records_at(behind_job(job)),
+    };
     match kind {
-        b'p' => plan(out, s, nodes, lanes, closed, count, order, dwell, records),
-        b'o' => house(out, s, nodes, lanes, closed, count, order, dwell, records),
-        b'y' => write(out, s, nodes, lanes, closed, count, order, dwell, records),
-        _ => judge(out, s, nodes, lanes, closed, count, order, dwell, records),
+        Kind::PlanRecords => plan(out, s, &recorded),
+        Kind::HouseRecords => house(out, s, &recorded),
+        Kind::WriteRecords => write(out, s, &recorded),
+        _ => judge(out, s, &recorded),
     }
 }
 
-fn plan<W: Write>(
-    out: &mut W,
-    s: &[u8],
-    nodes: usize,
-    lanes: &[u16],
-    closed: &[u16],
-    count: usize,
-    order: &[u16],
-    dwell: usize,
-    records: [Record; LENDABLE],
-) -> io::Result<()> {
-    let mut table = marked_shorts();
-    let mut fields = [7777u32; 320];
+fn plan<W: Write>(out: &mut W, s: &[u8], job: &Recorded) -> io::Result<()> {
+    let mut table: [u16; PLACES] = filled(MARK);
+    let mut fields: [u32; FIELDS] = filled(MARK as u32);
     let planned = plan_lent(
-        nodes,
-        lanes,
-        closed,
-        count,
-        order,
-        dwell,
-        lend_shorts(&mut table, s, 0),
-        records,
+        &job.network,
+        job.count,
+        job.order,
+        job.dwell,
+        lend(&mut table, s, 0),
+        job.records,
         &mut fields,
     );
     print::planned(out, planned)?;
-    print_runs(out, b"table", &[], &table, &[])?;
-    print_runs(out, b"records", &[], &[], &fields)
+    print_runs(out, "table", &table)?;
+    print_runs(out, "records", &fields)
 }
 
-fn house<W: Write>(
-    out: &mut W,
-    s: &[u8],
-    nodes: usize,
-    lanes: &[u16],
-    closed: &[u16],
-    count: usize,
-    order: &[u16],
-    dwell: usize,
-    records: [Record; LENDABLE],
-) -> io::Result<()> {
-    let mut path = [7777u16; 1100];
+fn house<W: Write>(out: &mut W, s: &[u8], job: &Recorded) -> io::Result<()> {
+    let mut path: [u16; 1100] = filled(MARK);
     let housed = house_lent(
-        nodes,
-        lanes,
-        closed,
-        count,
-        order,
-        dwell,
+        &job.network,
+        job.count,
+        job.order,
+        job.dwell,
         Carrier(short_at(s, 2)),
-        lend_shorts(&mut path, s, 0),
-        records,
+        lend(&mut path, s, 0),
+        job.records,
     );
     print::housed(out, housed)?;
-    print_runs(out, b"path", &[], &path, &[])
+    print_runs(out, "path", &path)
 }
 
-fn judge<W: Write>(
-    out: &mut W,
-    s: &[u8],
-    nodes: usize,
-    lanes: &[u16],
-    closed: &[u16],
-    count: usize,
-    order: &[u16],
-    dwell: usize,
-    records: [Record; LENDABLE],
-) -> io::Result<()> {
-    let mut room = list_room();
+fn judge<W: Write>(out: &mut W, s: &[u8], job: &Recorded) -> io::Result<()> {
+    let mut room: [u16; LIST_ROOM] = filled(0);
     let judged = judge_lent(
-        nodes,
-        lanes,
-        closed,
-        count,
-        order,
-        dwell,
+        &job.network,
+        job.count,
+        job.order,
+        job.dwell,
         Carrier(short_at(s, 2)),
         loaded_list(rest(s, 8), &mut room),
-        records,
+        job.records,
     );
     print::judged(out, judged)
 }
 
-fn write<W: Write>(
-    out: &mut W,
-    s: &[u8],
-    nodes: usize,
-    lanes: &[u16],
-    closed: &[u16],
-    count: usize,
-    order: &[u16],
-    dwell: usize,
-    records: [Record; LENDABLE],
-) -> io::Result<()> {
-    let mut bytes = marked_bytes();
+fn write<W: Write>(out: &mut W, s: &[u8], job: &Recorded) -> io::Result<()> {
+    let mut bytes: [u8; TEXT_ROOM] = filled(BYTE_MARK);
     let answer = write_lent(
-        nodes,
-        lanes,
-        closed,
-        count,
-        order,
-        dwell,
-        lend_bytes(&mut bytes, s, 0),
-        records,
+        &job.network,
+        job.count,
+        job.order,
+        job.dwell,
+        lend(&mut bytes, s, 0),
+        job.records,
     );
     print_written(out, answer, &bytes)
 }

@@ -1,6 +1,0 @@
--- The measure is how many further calls are left.
-use Rattle.std.proofs.Common.{◌-◌}
-use Rattle.try_cases.proofs.booked.call.Given as goal
-
-abbrev pub decreases-loop-i : goal.decreases-loop-i
-decreases-loop-i g l = l.further - l.i
