@@ -58,8 +58,7 @@ pub(crate) fn entry_lines(
         let Some(next) = store_entry(text, here, which, k, table) else {
             return Err(Refusal::new(Fault::Malformed, here.line));
         };
-        let checked = check_one(which, job.nodes, job.carriers, closed, table, k);
-        if let Err(r) = checked {
+        if let Err(r) = check_one(which, job.nodes, job.carriers, closed, table, k) {
             return Err(Refusal::new(r.fault, here.line));
         }
         here = next;

@@ -1,6 +1,6 @@
 -- Each turn is one law of EntryLines.antt: the table has room for the entry, whose line is lacking, or is faulty,
--- or goes on; and at the end all entries are read.
-use Rattle.reader.proofs.EntryLines.{lines_begin, room_here, lines_lack, lines_fail, lines_next, lines_end}
+-- or goes on.
+use Rattle.reader.proofs.EntryLines.{lines_begin, room_here, lines_lack, lines_fail, lines_next}
 use Rattle.reader.proofs.lines.entry_lines.Goals as goal
 
 pub loop-k-init : goal.loop-k-init
@@ -14,15 +14,12 @@ pub returns-in-Err : goal.returns-in-Err
 returns-in-Err c =
     let room = room_here _ _ _ _ _ _ _ _ _ _ c.loop-k.invariant c.loop-k-test.true c.requires.room in
     lines_fail _ _ _ _ _ _ _ _ _ _ c.loop-k.invariant c.loop-k-test.true _ _ c.in-Some.ensures
-    (rw c.store_entry.auto.table room) _ c.check_one-checked.ensures _ c.in-Err.is _
+    (rw c.store_entry.auto.table room) _ c.check_one.ensures _ c.in-Err.is _
     c.new-in-Err.ensures
 
 pub loop-k-preserved : goal.loop-k-preserved
 loop-k-preserved c =
     let room = room_here _ _ _ _ _ _ _ _ _ _ c.loop-k.invariant c.loop-k-test.true c.requires.room in
     lines_next _ _ _ _ _ _ _ _ _ _ c.loop-k.invariant c.loop-k-test.true _ _ c.in-Some.ensures
-    (rw c.store_entry.auto.table room) _ c.check_one-checked.ensures c.in_default-checked.is
+    (rw c.store_entry.auto.table room) _ c.check_one.ensures c.in_default-check_one.is
     c.store_entry.auto.table
-
-pub returns : goal.returns
-returns c = lines_end _ _ _ _ _ _ _ _ _ _ c.loop-k.invariant c.loop-k-test.false
