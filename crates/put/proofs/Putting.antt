@@ -3,7 +3,8 @@
 -- is put, and there a second run adds nothing to the first. Where there is room, what is put at the front is
 -- the bytes with the rest behind them. Assumes nothing.
 --     put_then       two runs are one; puts_then the same of an `Out`
---     put_closed     a text at the front and zeros behind it up to a least length fill the list
+--     put_closed     a text at the front and zeros behind it up to a least length fill the list;
+--                    puts_closed the same of an `Out` that began at the front
 --     put_unique     two outcomes that fit the promise are equal; puts_unique the same of an `Out`
 use mathlib.Core.Path.{◌≡◌, refl, sym, ◌∙◌, ap}
 use mathlib.Core.List.{List, [], ◌∷◌, ◌++◌, append_assoc}
@@ -15,7 +16,7 @@ use native.Mathlib.Omega.{arith}
 use lib.ListN.{length, drop, set, take, get_or, replicate, length-append, length-replicate, replicate-append-replicate}
 use lib.Seq.{take-suc}
 use Rattle.put.specs.declared.Out.{Out}
-use Rattle.put.specs.Putting.{overwritten, past, Put, Puts}
+use Rattle.put.specs.Putting.{overwritten, past, Put, Puts, ZerosRest}
 
 pub put_length : (at : ℕ) (bytes out : List ℕ) → length (overwritten at bytes out) ≡ length out
 unfolding overwritten
@@ -212,3 +213,12 @@ put_closed text out least {out₁} {out₂} {r} fits room first second =
     let front = put_front (text ++ zeros) out (omega arith) in
     let whole = rw long at front in
     (second ∙ stands ∙ whole ∙ append_assoc text zeros (drop least out), size)
+
+-- the same of an `Out` that began at the front
+pub puts_closed : (text : List ℕ) (least : ℕ) {o p q : Out} → o.at ≡ 0
+    → length text ≤ least → least ≤ length o.bytes.now → Puts o text p → ZerosRest p least q
+    → (q.bytes.now ≡ text ++ (replicate (least - length text) 0 ++ drop least o.bytes.now)) × (q.at ≡ length text)
+puts_closed text least {o} front fits room puts rest =
+    let first = rw front at puts.put in
+    let closed = put_closed text o.bytes.now least fits room first rest.zeros in
+    (closed.0, rest.same_place ∙ closed.1)

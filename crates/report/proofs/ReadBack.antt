@@ -3,8 +3,8 @@
 -- checks; a refusal is the text's. The tables that are lent are long enough, so 9 is not given. The lists
 -- of a job are as long as its counts say, and so they are the first numbers of the filled tables (hall's
 -- `filled_front`). Assumes nothing.
---     job_in_front        the job whose numbers stand in front of the tables, by its counts, with the dwell
---     ReadBack          the text is the written form of that job, and its counts are within the limits
+--     ReadBack          the text is the written form of the job whose numbers stand in front of the tables
+--                       (reader's `numbers_read`), and its counts are within the limits
 --     job_back          counts that reading answers are those of a job that was read
 --     refusal_back      a refusal that reading answers is the text's
 --     job_answers, refused_answers    so what is printed for them answers the text
@@ -19,7 +19,7 @@ use Rattle.hall.specs.declared.Job.{Job}
 use Rattle.hall.specs.declared.Refusal.{Refusal}
 use Rattle.hall.specs.Limits.{node_limit, lane_limit, carrier_limit, lane_numbers, move_numbers}
 use Rattle.hall.specs.Floor.{network_of}
-use Rattle.hall.specs.Job.{Numbers, job_of}
+use Rattle.hall.specs.Job.{job_of}
 use Rattle.hall.specs.Numbers.{number_of}
 use Rattle.hall.specs.Left.{filled}
 use Rattle.hall.proofs.Left.{filled_front}
@@ -28,20 +28,13 @@ use Rattle.form.specs.Texts.{Refused}
 use Rattle.form.specs.JobText.{job_text}
 use Rattle.form.specs.Jobs.{WrittenJob}
 use Rattle.form.proofs.WrittenJobs.{lanes_paired, lanes_few, closed_few}
-use Rattle.reader.specs.Reading.{said_read, counts_of, AnyShort, AcceptedAs, RefusedWith, ReadInto}
+use Rattle.reader.specs.Reading.{said_read, counts_of, numbers_read, AnyShort, AcceptedAs, RefusedWith, ReadInto}
 use Rattle.reader.proofs.Exactly.{by_form}
 use Rattle.report.specs.Printing.{RefusedPrinting}
 use Rattle.report.specs.Answer.{JobAnswer, AnswerText, Answering}
 
-abbrev pub job_in_front : Job → (lanes closed moves order : List ℕ) → Numbers
-job_in_front counts lanes closed moves order =
-    job_of (network_of counts.nodes (take (2 * counts.lanes) lanes) (take counts.closed closed))
-    (take (2 * counts.carriers) moves)
-    (take counts.carriers order)
-    counts.dwell
-
 pub record ReadBack (text lanes closed moves order : List ℕ) (counts : Job) : Type 0 where
-  pub writes : WrittenJob text (job_in_front counts lanes closed moves order)
+  pub writes : WrittenJob text (numbers_read counts lanes closed moves order)
   pub few_lanes : counts.lanes ≤ lane_limit
   pub few_closed : counts.closed ≤ node_limit
   pub few_carriers : counts.carriers ≤ carrier_limit
@@ -54,7 +47,7 @@ in_front {l} {numbers} n least table e sized =
 module _ {text lanes closed moves order l s m o : List ℕ} where
   -- the numbers of an accepted text stand in front of the tables
   accepted_front : {counts : Job} (a : AcceptedAs text lanes closed moves order l s m o counts) →
-      job_in_front counts l s m o ≡ a.job
+      numbers_read counts l s m o ≡ a.job
   accepted_front {counts} a =
       let j = a.job in
       let w = a.writes in
@@ -65,7 +58,7 @@ module _ {text lanes closed moves order l s m o : List ℕ} where
       let es = in_front (counts_of j).closed node_limit closed a.closed_left refl in
       let em = in_front (2 * (counts_of j).carriers) move_numbers moves a.moves_left w.paired in
       let eo = in_front (counts_of j).carriers carrier_limit order a.order_left no in
-      ap (λ (c : Job). job_in_front c l s m o) is
+      ap (λ (c : Job). numbers_read c l s m o) is
       ∙ λ i. job_of (network_of j.network.nodes (el i) (es i)) (em i) (eo i) j.dwell
 
   accepted_back : {counts : Job} → AcceptedAs text lanes closed moves order l s m o counts → ReadBack text l s m o counts
@@ -109,7 +102,7 @@ module _ (text lanes closed moves order : List ℕ) where
 
 pub job_answers : {text lanes closed moves order : List ℕ} {counts : Job} {out out' : List ℕ} {r : ℕ} →
     ReadBack text lanes closed moves order counts →
-    Answering (JobAnswer (job_in_front counts lanes closed moves order)) out out' r →
+    Answering (JobAnswer (numbers_read counts lanes closed moves order)) out out' r →
     Answering (AnswerText text) out out' r
 job_answers read (Answering.whole long text prints) =
     Answering.whole long (AnswerText.accepted read.writes text) prints

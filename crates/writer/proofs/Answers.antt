@@ -5,9 +5,9 @@
 --     job_written       the text
 use mathlib.Core.Path.{◌≡◌, sym, ◌∙◌}
 use mathlib.Core.List.{List}
-use Prim.Native.Nat.{ℕ, ◌-◌, ◌≤◌, ◌<◌}
+use Prim.Native.Nat.{ℕ, ◌≤◌, ◌<◌}
 use native.Mathlib.Omega.{arith}
-use lib.ListN.{length, replicate}
+use lib.ListN.{length}
 use Rattle.std.proofs.Common.{Result, Ok, Err}
 use Rattle.hall.specs.declared.Refusal.{Refusal}
 use Rattle.hall.specs.Limits.{text_room}
@@ -18,18 +18,12 @@ use Rattle.hall.specs.Left.{filled, zeroed}
 use Rattle.hall.proofs.Compose.{refused_first, sound_none}
 use Rattle.hall.proofs.Places.{asked_later, asked_clear}
 use Rattle.hall.proofs.Left.{left_zeroed}
-use Rattle.put.specs.Putting.{overwritten, Put}
-use Rattle.put.proofs.Putting.{put_closed}
+use Rattle.put.specs.declared.Out.{Out}
+use Rattle.put.specs.Putting.{Puts, ZerosRest}
+use Rattle.put.proofs.Putting.{puts_closed}
 use Rattle.form.specs.Jobs.{text_of}
 use Rattle.form.proofs.WholeJobs.{written_fits}
 use Rattle.writer.specs.Writing.{Writing}
-
--- a text that is put at the front, and zeros put behind it, fill the output
-fills : {text out out₁ out₂ : List ℕ} {r : ℕ} → length text ≤ text_room → text_room ≤ length out →
-    Put out 0 text out₁ r → out₂ ≡ overwritten r (replicate (text_room - r) 0) out₁ →
-    (out₂ ≡ filled text text_room out) × (r ≡ length text)
-unfolding filled
-fills {text} {out} fits room = put_closed text out text_room fits room
 
 module _ (j : Numbers) (out : List ℕ) where
   module _ (room : text_room ≤ length out) (c : Result Unit Refusal) (judged : Judged (checks_question j) c) where
@@ -45,10 +39,14 @@ module _ (j : Numbers) (out : List ℕ) where
           output_left = zeros ∙ sym (left_zeroed (omega arith) first text_room out);
         }
 
-    pub job_written : {out₁ out₂ : List ℕ} {r : ℕ} → c ≡ Ok tt →
-        Put out 0 (text_of j) out₁ r → out₂ ≡ overwritten r (replicate (text_room - r) 0) out₁ →
-        Writing j out out₂ (accepted r)
-    job_written told puts zeros =
+    pub job_written : {out₂ : List ℕ} {o p q : Out} → c ≡ Ok tt → o.at ≡ 0 → o.bytes.now ≡ out →
+        Puts o (text_of j) p → ZerosRest p text_room q → out₂ ≡ q.bytes.now → Writing j out out₂ (accepted q.at)
+    unfolding filled
+    job_written told front lent puts rest kept =
         let none = sound_none (checks_question j) told judged in
-        let closed = fills (written_fits j none) room puts zeros in
-        record { no_fault = asked_clear long none; output_left = closed.0; is_size = closed.1 }
+        let closed = puts_closed (text_of j) text_room front (written_fits j none) (rw lent room) puts rest in
+        record {
+          no_fault = asked_clear long none;
+          output_left = kept ∙ (rw lent at closed.0);
+          is_size = closed.1;
+        }

@@ -1,6 +1,6 @@
 -- A short output is refused before anything else and stays as it came; a fault of the job zeroes it; a job
 -- without one is put at its front, and zeros behind.
-use Rattle.std.proofs.Common.{rules, arith, ◌∙◌}
+use Rattle.std.proofs.Common.{rules, refl, arith}
 use Rattle.hall.specs.Job.{job_in}
 use Rattle.writer.proofs.Answers.{job_refused, job_written}
 use Rattle.writer.proofs.write_numbers.Goals as goal
@@ -12,6 +12,5 @@ returns-in-Err c =
 
 pub returns : goal.returns
 returns c =
-    rw c.zero_rest.ensures.same_place
-    (job_written (job_in c.args.job.now) c.args.out.now (omega arith) _ c.check_job.ensures c.in_default.is
-    c.put_job.ensures.put (search rules ∙ c.zero_rest.ensures.zeros))
+    job_written (job_in c.args.job.now) c.args.out.now (omega arith) _ c.check_job.ensures c.in_default.is
+    refl refl c.put_job.ensures c.zero_rest.ensures (search rules)

@@ -1,6 +1,6 @@
 -- A word, a field, the carriers' lines, a word and a field, one behind the other, at the front of the
 -- bytes, and zeros behind them; the text fits into 2,048 bytes.
-use Rattle.std.proofs.Common.{rules, arith, ◌∙◌}
+use Rattle.std.proofs.Common.{rules, refl, arith}
 use Rattle.put.proofs.Putting.{puts_then}
 use Rattle.report.specs.Printing.{Askable, PlanPrinting}
 use Rattle.report.proofs.Lines.{plan_parts, plan_fits}
@@ -18,5 +18,4 @@ returns c =
     let text = rw (← plan_parts _ _ _ _) at puts in
     let fits = plan_fits a.carriers _ _ a.cost ask.few
     (λ i. (c.type_inv.ticks i).fits) (λ i. (c.type_inv.distances i).fits) c.ranges.cost.fits in
-    rw c.zero_rest.ensures.same_place
-    (PlanPrinting.whole ask (put_prints fits ask.room text.put (search rules ∙ c.zero_rest.ensures.zeros)))
+    PlanPrinting.whole ask (put_prints refl fits ask.room text c.zero_rest.ensures (search rules))

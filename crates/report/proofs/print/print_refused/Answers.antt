@@ -1,6 +1,6 @@
 -- The word and two fields, one behind the other, at the front of the bytes, and zeros behind them; the
 -- text fits into 2,048 bytes.
-use Rattle.std.proofs.Common.{rules, ◌∙◌}
+use Rattle.std.proofs.Common.{rules, refl}
 use Rattle.put.proofs.Putting.{puts_then}
 use Rattle.report.specs.Printing.{RefusedPrinting}
 use Rattle.report.proofs.Lines.{refused_parts, refused_fits}
@@ -13,5 +13,4 @@ returns c =
     let puts = puts_then c.word.ensures (puts_then c.field.ensures c.field-2.ensures) in
     let text = rw (← refused_parts _ _) at puts in
     let fits = refused_fits c.args.number c.args.line c.ranges.number.fits c.ranges.line.fits in
-    rw c.zero_rest.ensures.same_place
-    (RefusedPrinting.whole room (put_prints fits room text.put (search rules ∙ c.zero_rest.ensures.zeros)))
+    RefusedPrinting.whole room (put_prints refl fits room text c.zero_rest.ensures (search rules))
