@@ -54,49 +54,15 @@ fn read_text(
         result }
 {
     let none: &[u16] = &[];
-    let (job, here) = section(
-        text,
-        Job::empty(),
-        Cursor::start(),
-        Sections::Nodes,
-        none,
-        lanes,
-    )?;
-    let (job, here) = section(
-        text,
-        job,
-        here,
-        Sections::Listed(Entries::Lanes),
-        none,
-        lanes,
-    )?;
-    let (job, here) = section(
-        text,
-        job,
-        here,
-        Sections::Listed(Entries::Closed),
-        none,
-        closed,
-    )?;
+    let read = (Job::empty(), Cursor::start());
+    let read = section(text, read, Sections::Nodes, none, lanes)?;
+    let read = section(text, read, Sections::Listed(Entries::Lanes), none, lanes)?;
+    let read = section(text, read, Sections::Listed(Entries::Closed), none, closed)?;
     let shut: &[u16] = closed;
-    let (job, here) = section(
-        text,
-        job,
-        here,
-        Sections::Listed(Entries::Moves),
-        shut,
-        moves,
-    )?;
-    let (job, here) = section(
-        text,
-        job,
-        here,
-        Sections::Listed(Entries::Places),
-        shut,
-        order,
-    )?;
-    let (job, here) = section(text, job, here, Sections::Dwell, shut, order)?;
-    at_end(text, job, here)
+    let read = section(text, read, Sections::Listed(Entries::Moves), shut, moves)?;
+    let read = section(text, read, Sections::Listed(Entries::Places), shut, order)?;
+    let read = section(text, read, Sections::Dwell, shut, order)?;
+    at_end(text, read)
 }
 
 // Reads a job text. The lanes' numbers go to `lanes`, the closed nodes to `closed`, the starts and goals of

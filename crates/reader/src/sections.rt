@@ -116,28 +116,28 @@ fn with_count(which: Sections, count: usize, before: Job) -> Job
     job
 }
 
-// A section, behind the counts so far and from where the cursor stands: the counts with its own put in, and where
-// the next line begins. Its table becomes zero, then its count is read, and as many entries, if it lists any, go
+// A section, behind the counts that were read so far and from where the cursor stands: the counts with its own put
+// in, and where the next line begins. Its table becomes zero, then its count is read, and as many entries, if it lists any, go
 // in front of the zeros; the ends of moves may not be among the closed nodes so far. Where no line of its count
 // stands and it may be missing, nothing more changes: the cursor stays, and the next step asks for its own line
 // there. A section without entries leaves the table that it is lent.
 pub(crate) fn section(
     text: &[u8],
-    before: Job,
-    here: Cursor,
+    read: (Job, Cursor),
     which: Sections,
     closed: &[u16],
     table: &mut [u16],
 ) -> Result<(Job, Cursor), Refusal>
-    requires { Ready text.now closed.now which before here × (room_of which ≤ length table.old) }
-    ensures { SectionStep text.now closed.now which before here
+    requires { Ready text.now closed.now which read.0 read.1 × (room_of which ≤ length table.old) }
+    ensures { SectionStep text.now closed.now which read.0 read.1
         table.old table.new result }
 {
+    let (before, here) = read;
     let terms = terms_of(which, before.carriers);
     fill_first(table, terms.room, 0);
     let Some((number, next)) = here.count(text, word_of(which)) else {
         if terms.optional {
-            return Ok((before, here));
+            return Ok(read);
         }
         return Err(Refusal::new(Fault::Malformed, here.line));
     };
@@ -155,9 +155,10 @@ pub(crate) fn section(
 }
 
 // The end of the text: no byte may be left.
-pub(crate) fn at_end(text: &[u8], job: Job, here: Cursor) -> Result<Job, Refusal>
-    ensures { EndStep text.now job here result }
+pub(crate) fn at_end(text: &[u8], read: (Job, Cursor)) -> Result<Job, Refusal>
+    ensures { EndStep text.now read.0 read.1 result }
 {
+    let (job, here) = read;
     if here.at < text.len() {
         return Err(Refusal::new(Fault::Malformed, here.line));
     }

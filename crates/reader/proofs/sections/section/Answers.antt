@@ -9,7 +9,7 @@ use Rattle.reader.proofs.sections.section.Goals.{then-count-terms-via-else-count
 use Rattle.reader.proofs.sections.section.Goals as goal
 
 asked : (c : After-count)
-    → Asked c.args.text.now c.args.which c.args.before c.args.here c.args.table.now c.fill_first.new.list
+    → Asked c.args.text.now c.args.which c.args.read.0 c.args.read.1 c.args.table.now c.fill_first.new.list
     c.terms_of-terms.result c.word_of.result.now c.count.result
 asked c = record {
   is_terms = c.terms_of-terms.ensures;
