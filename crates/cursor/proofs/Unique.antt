@@ -35,7 +35,8 @@ taken_unique text c a b e f l x y =
     (sym x.taken.begins ∙ y.taken.begins) in
     (sym x.is_entry ∙ u.0 ∙ y.is_entry, behind_unique text c a b _ _ u.1 x.behind y.behind)
 
-pub entering_unique : (text : List ℕ) (c : Cursor) (r s : Option (ℕ × Cursor)) → Entering text c r → Entering text c s
+pub entering_unique : (text : List ℕ) (c : Cursor) (r s : Option (ℕ × Cursor)) → Entering text c r
+    → Entering text c s
     → r ≡ s
 entering_unique text c (Some (n, a)) (Some (m, b)) x y =
     let u = taken_unique text c a b _ _ refl x y in

@@ -29,7 +29,8 @@ use Rattle.reader.proofs.TextStands.{start-reads, nodes-reads, lanes-reads, clos
 use Rattle.reader.proofs.TextStands.{carriers-reads}
 
 module _ (text : List ℕ) where
-  pub after_nodes : (before after : List ℕ) (job : Job) (here : Cursor) (q : Result (Job × Cursor) Refusal) → StartAt text job here
+  pub after_nodes : (before after : List ℕ) (job : Job) (here : Cursor) (q : Result (Job × Cursor) Refusal)
+      → StartAt text job here
       → SectionStep text [] Nodes job here before after q → After text (NodesAt text) q
   unfolding start-reads
   after_nodes before after =

@@ -4,8 +4,8 @@
 --     ready_nodes, ready_lanes, ready_closed, ready_moves, ready_order, ready_dwell    the section may be
 --                      read
 --     none_short       tables that are long enough are not too short
---     stop_nodes, stop_lanes, stop_closed, stop_moves, stop_order, stop_dwell    the section is refused, and with it
---                      the text
+--     stop_nodes, stop_lanes, stop_closed, stop_moves, stop_order, stop_dwell    the section is refused, and
+--                      with it the text
 --     text_read        the answer at the end, and what is left in the tables
 use mathlib.Core.Path.{◌≡◌, refl, ◌∙◌, ap}
 use mathlib.Core.Logic.{inl, inr}

@@ -9,7 +9,8 @@
 --     Begun          the form leads to the first line of the entries, and the table has room for them
 --     EntriesRead    all entries were read and stand in the table; or the text is refused
 -- `Stored`, `StoredAnswer` and `EntriesAnswer` are parts of these, by what is answered.
-use Rattle.std.specs.Prelude.{◌≡◌, List, [], ◌++◌, ℕ, suc, ◌*◌, ◌≤◌, length, take, drop, Option, None, Some, Result, Ok, Err}
+use Rattle.std.specs.Prelude.{◌≡◌, List, [], ◌++◌, ℕ, suc, ◌*◌, ◌≤◌, length, take, drop}
+use Rattle.std.specs.Prelude.{Option, None, Some, Result, Ok, Err}
 use Rattle.hall.specs.declared.Job.{Job}
 use Rattle.hall.specs.declared.Refusal.{Refusal}
 use Rattle.hall.specs.Limits.{carrier_limit}

@@ -20,7 +20,8 @@
 --                    least length on are as they were, whatever it answers
 --     EndStep        what the last step answers: the text is accepted with the sections read, or refused
 -- `terms`, `counting`, `SectionAnswer` and `EndAnswer` are parts of these.
-use Rattle.std.specs.Prelude.{◌≡◌, ◌⊎◌, List, [], ◌∷◌, Bool, true, false, ℕ, ◌≤◌, length, take, drop, Result, Ok, Err}
+use Rattle.std.specs.Prelude.{◌≡◌, ◌⊎◌, List, [], ◌∷◌, Bool, true, false, ℕ, ◌≤◌, length, take, drop}
+use Rattle.std.specs.Prelude.{Result, Ok, Err}
 use Rattle.hall.specs.declared.Refusal.{Refusal}
 use Rattle.hall.specs.declared.Job.{Job}
 use Rattle.hall.specs.Limits.{node_limit, lane_limit, carrier_limit, dwell_limit, lane_numbers, move_numbers}

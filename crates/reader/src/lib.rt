@@ -66,8 +66,8 @@ fn read_text(
 }
 
 // Reads a job text. The lanes' numbers go to `lanes`, the closed nodes to `closed`, the starts and goals of
-// the carriers by turns to `moves`, and the order to `order`; the counts and the dwell are answered,
-// or the refusal with its line.
+// the carriers by turns to `moves`, and the order to `order`; the counts and the dwell are answered, or the
+// refusal with its line.
 pub fn read_numbers(
     text: &[u8],
     lanes: &mut [u16],

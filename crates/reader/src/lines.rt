@@ -38,8 +38,8 @@ fn store_entry(
     }
 }
 
-// As many lines of entries as are counted, from where the cursor stands, to where the next line begins. Only the
-// checks of moves look at the closed nodes.
+// As many lines of entries as are counted, from where the cursor stands to where the next line begins. Only
+// the checks of moves look at the closed nodes.
 pub(crate) fn entry_lines(
     text: &[u8],
     from: Cursor,

@@ -116,11 +116,11 @@ fn with_count(which: Sections, count: usize, before: Job) -> Job
     job
 }
 
-// A section, behind the counts that were read so far and from where the cursor stands: the counts with its own put
-// in, and where the next line begins. Its table becomes zero, then its count is read, and as many entries, if it lists any, go
-// in front of the zeros; the ends of moves may not be among the closed nodes so far. Where no line of its count
-// stands and it may be missing, nothing more changes: the cursor stays, and the next step asks for its own line
-// there. A section without entries leaves the table that it is lent.
+// A section, behind the counts that were read so far and from where the cursor stands: the counts with its own
+// put in, and where the next line begins. Its table becomes zero, then its count is read, and as many entries,
+// if it lists any, go in front of the zeros; the ends of moves may not be among the closed nodes so far. Where
+// no line of its count stands and it may be missing, nothing more changes: the cursor stays, and the next step
+// asks for its own line there. A section without entries leaves the table that it is lent.
 pub(crate) fn section(
     text: &[u8],
     read: (Job, Cursor),

@@ -11,7 +11,8 @@ pub returns-in_err-second : goal.returns-in_err-second
 returns-in_err-second c =
     let word = c.in_ok-behind.ensures in
     rw c.from_residual-in_err-second.ensures
-    (count_alone c.args.text.now c.args.word.now c.args.self c.in_ok-behind.behind word.0 word.1 c.in_err-second.ensures)
+    (count_alone c.args.text.now c.args.word.now c.args.self c.in_ok-behind.behind word.0 word.1
+    c.in_err-second.ensures)
 
 pub returns : goal.returns
 returns c =

@@ -10,4 +10,7 @@ returns-in_err-next c =
     rw c.from_residual.ensures (λ rest. c.in_err-next.ensures 32 rest (kind_space 32 refl))
 
 pub returns : goal.returns
-returns c = (byte_on 32 c.in_ok-next.ensures (lies _ Space c.in_ok-next.ensures.of_kind), c.in_ok-next.ensures.same_line)
+returns c = (
+  byte_on 32 c.in_ok-next.ensures (lies _ Space c.in_ok-next.ensures.of_kind),
+  c.in_ok-next.ensures.same_line,
+)
