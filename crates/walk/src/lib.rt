@@ -85,14 +85,17 @@ fn shut(closed: &[u16], row: &mut [u16])
     }
 }
 
-// The open nodes that no sweep has reached get the mark for "no walk" too.
+// The open nodes that no sweep has reached get the mark for "no walk" too. Each label is written, whether it
+// changes or not: a processor then takes several at a time.
 fn settle(row: &mut [u16])
     ensures { Settled (length row.old) row.old row.new }
 {
     for label in row.iter_mut() {
-        if *label == UNREACHED {
-            *label = Job::NO_WALK;
-        }
+        *label = if *label == UNREACHED {
+            Job::NO_WALK
+        } else {
+            *label
+        };
     }
 }
 
