@@ -28,18 +28,12 @@ fn blocks(slot: Slot, own: u16, rows: &Rows, dwell: u32, t: u32) -> bool
 }
 
 // The lowest slot that forbids it, if one does.
-fn lowest_blocking(
-    slots: [Slot; Book::SLOTS],
-    own: u16,
-    rows: &Rows,
-    dwell: u32,
-    t: u32,
-) -> Option<usize>
-    requires { OnRows slots }
-    ensures { LowestBlocking rows.now own dwell t slots result }
+fn lowest_blocking(book: &Book, own: u16, rows: &Rows, t: u32) -> Option<usize>
+    requires { OnRows book.now.slots }
+    ensures { LowestBlocking rows.now own book.now.dwell t book.now.slots result }
 {
     for i in 0..Book::SLOTS {
-        if blocks(slots[i], own, rows, dwell, t) {
+        if blocks(book.slots[i], own, rows, book.dwell, t) {
             return Some(i);
         }
     }
@@ -55,6 +49,6 @@ pub fn ask_step(book: Book, t: u32, network: &Network, ends: Ends) -> Result<Opt
     check_call(&book, t, network, ends, &mut rows)?;
     let standing = forget(&book, t);
     let distance = rows.outward[ends.goal as usize];
-    let slot = lowest_blocking(standing, distance, &rows, book.dwell, t);
+    let slot = lowest_blocking(&standing, distance, &rows, t);
     Ok(slot)
 }

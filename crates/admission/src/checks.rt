@@ -48,9 +48,9 @@ pub(crate) fn check_call(
 ) -> Result<(), Refusal>
     ensures { Called (network_in network.now) book.now t ends.start ends.goal rows.new result }
 {
-    check_book(*book, t)?;
+    check_book(book, t)?;
     check_reached(network, ends, rows)?;
-    check_held(network, book.slots, book.dwell, t)
+    check_held(network, book, t)
 }
 
 // The same. Where `known`, all that is asked of the book, the clock value and the network is known to pass,

@@ -52,29 +52,23 @@ fn refusing(book: Book, refusal: Refusal) -> Stepped
     }
 }
 
-// The answer for a carrier that takes a slot, with the book that stands then.
-fn entered(
-    clock: u32,
-    dwell: u32,
-    slots: [Slot; Book::SLOTS],
-    place: usize,
-    carrier: Slot,
-) -> Stepped
+// The answer for a carrier that takes a slot of a book, with the book that stands then.
+fn entered(book: Book, place: usize, carrier: Slot) -> Stepped
     requires { place < slot_count }
     ensures { result ≡ record {
       answer = Ok (record { tick = carrier.tick; slot = place });
-      book = book_with clock dwell (set slots place carrier);
+      book = book_with book.clock book.dwell (set book.slots place carrier);
     } }
 {
-    let mut left = slots;
-    left[place] = carrier;
+    let mut left = book;
+    left.slots[place] = carrier;
     let entry = Entry {
         tick: carrier.tick,
         slot: place,
     };
     Stepped {
         answer: Ok(entry),
-        book: Book::with_slots(clock, dwell, left),
+        book: left,
     }
 }
 
@@ -103,20 +97,19 @@ pub(crate) fn admit_known(
     if let Err(refusal) = checked {
         return refusing(book, refusal);
     }
-    let dwell = book.dwell;
     let left = forget(&book, clock);
-    let Some(place) = lowest_free(left) else {
+    let Some(place) = lowest_free(&left) else {
         return refusing(book, Refusal::new(Fault::NoSlot, 0));
     };
     let distance = rows.outward[ends.goal as usize];
-    let tick = tick::first_for(left, dwell, clock, distance, &rows) as u32;
+    let tick = tick::first_for(&left, clock, distance, &rows) as u32;
     let carrier = Slot {
         start: ends.start,
         goal: ends.goal,
         distance,
         tick,
     };
-    entered(clock, dwell, left, place, carrier)
+    entered(left, place, carrier)
 }
 
 // An admission of which nothing is known.

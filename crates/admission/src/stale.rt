@@ -4,7 +4,7 @@
 //
 // A carrier is judged by the row of distances from its start. Carriers that come from one lift have one row,
 // so there is one walk for each different start: the lowest slot with a start judges all that have it.
-ghost use Rattle.std.specs.Prelude.{[], ◌∷◌, ◌+◌, ◌≤◌, ◌<◌, option_copied};
+ghost use Rattle.std.specs.Prelude.{[], ◌∷◌, ◌+◌, ◌≤◌, ◌<◌, ◌≡◌, length, option_copied};
 ghost use Rattle.hall.specs.Limits.{node_limit};
 ghost use Rattle.hall.specs.Floor.{network_in};
 ghost use Rattle.hall.specs.Rule.{Answers};
@@ -25,11 +25,14 @@ fn stands_from(slot: Slot, start: u16, dwell: u32, t: u32) -> bool
 }
 
 // Whether a slot before place i does.
-fn judged_before(slots: [Slot; Book::SLOTS], start: u16, dwell: u32, t: u32, i: usize) -> bool
+fn judged_before(book: &Book, start: u16, t: u32, i: usize) -> bool
     requires { i ≤ slot_count }
-    ensures { Answers result (StandsBefore dwell t slots start i) }
+    ensures { Answers result (StandsBefore book.now.dwell t book.now.slots start i) }
 {
-    slots[..i].iter().any(|slot| stands_from(*slot, start, dwell, t))
+    let dwell = book.dwell;
+    book.slots[..i]
+        .iter()
+        .any(|slot| stands_from(*slot, start, dwell, t))
 }
 
 // Whether a slot with this start holds a carrier whose last tick is t or later, and whose distance is not the
@@ -68,17 +71,16 @@ fn lowest_by(
     nodes: usize,
     row: Option<&[u16; Job::NODES]>,
     start: u16,
-    slots: [Slot; Book::SLOTS],
-    dwell: u32,
+    book: &Book,
     t: u32,
     from: usize,
     end: usize,
 ) -> Option<usize>
     requires { (nodes ≤ node_limit) × (end ≤ slot_count) }
-    ensures { LowestBy nodes (option_copied row.entry) start dwell t slots from end result }
+    ensures { LowestBy nodes (option_copied row.entry) start book.now.dwell t book.now.slots from end result }
 {
     for p in from..end {
-        if stale_by(nodes, row, start, slots[p], dwell, t) {
+        if stale_by(nodes, row, start, book.slots[p], book.dwell, t) {
             return Some(p);
         }
     }
@@ -87,48 +89,37 @@ fn lowest_by(
 
 // One slot more: where it stands and none before it with its start does, all that stand and have its start
 // are judged by one walk from there.
-fn sieve(
-    network: &Network,
-    slots: [Slot; Book::SLOTS],
-    dwell: u32,
-    t: u32,
-    i: usize,
-    lowest: usize,
-) -> usize
-    requires { (network.now.nodes ≤ node_limit) × (i < lowest) × (¬ SomeBadSlot slots)
-        × Sieved (network_in network.now) dwell t slots i lowest }
-    ensures { Sieved (network_in network.now) dwell t slots (i + 1) result }
+fn sieve(network: &Network, book: &Book, t: u32, i: usize, lowest: usize) -> usize
+    requires { (network.now.nodes ≤ node_limit) × (i < lowest)
+        × (¬ SomeBadSlot book.now.slots) × (length book.now.slots ≡ slot_count)
+        × Sieved (network_in network.now) book.now.dwell t book.now.slots i lowest }
+    ensures { Sieved (network_in network.now) book.now.dwell t book.now.slots (i + 1) result }
 {
     let mut row: [u16; Job::NODES] = [0; Job::NODES];
-    let slot = slots[i];
-    let start = slot.start;
-    if !stands(slot, dwell, t) {
+    let slot = book.slots[i];
+    if !stands(slot, book.dwell, t) {
         return lowest;
     }
-    if judged_before(slots, start, dwell, t, i) {
+    if judged_before(book, slot.start, t, i) {
         return lowest;
     }
-    let served = walk::distances(network, start, &mut row);
+    let served = walk::distances(network, slot.start, &mut row);
     let told = served.then_some(&row);
-    lowest_by(network.nodes, told, start, slots, dwell, t, i, lowest).unwrap_or(lowest)
+    lowest_by(network.nodes, told, slot.start, book, t, i, lowest).unwrap_or(lowest)
 }
 
 // 17, at the lowest slot. The loop ends when all slots below the lowest stale one that was found are judged.
-pub(crate) fn check_held(
-    network: &Network,
-    slots: [Slot; Book::SLOTS],
-    dwell: u32,
-    t: u32,
-) -> Result<(), Refusal>
-    requires { (network.now.nodes ≤ node_limit) × (¬ SomeBadSlot slots) }
+pub(crate) fn check_held(network: &Network, book: &Book, t: u32) -> Result<(), Refusal>
+    requires { (network.now.nodes ≤ node_limit) × (¬ SomeBadSlot book.now.slots)
+        × (length book.now.slots ≡ slot_count) }
     ensures { Judged
-        (stale_slots (network_in network.now) dwell t slots ∷ [])
+        (stale_slots (network_in network.now) book.now.dwell t book.now.slots ∷ [])
         result }
 {
     let mut lowest: usize = Book::SLOTS;
     let mut i: usize = 0;
     while i < lowest {
-        lowest = sieve(network, slots, dwell, t, i, lowest);
+        lowest = sieve(network, book, t, i, lowest);
         i += 1;
     }
     if lowest < Book::SLOTS {

@@ -5,26 +5,20 @@ ghost use Rattle.admission.specs.Steps.{OnRows, TickFor};
 
 use crate::rows::{Rows, pair_for};
 use rule::{Held, first_tick};
-use slots::{Book, Slot};
+use slots::Book;
 
 // The smallest tick from now up that every carrier held permits to a move with these rows.
-pub(crate) fn first_for(
-    slots: [Slot; Book::SLOTS],
-    dwell: u32,
-    from: u32,
-    own: u16,
-    rows: &Rows,
-) -> u64
-    requires { OnRows slots }
-    ensures { TickFor rows.now own dwell from slots result }
+pub(crate) fn first_for(book: &Book, from: u32, own: u16, rows: &Rows) -> u64
+    requires { OnRows book.now.slots }
+    ensures { TickFor rows.now own book.now.dwell from book.now.slots result }
 {
     let mut held = [Held::default(); Book::SLOTS];
     for i in 0..Book::SLOTS {
-        let slot = slots[i];
+        let slot = book.slots[i];
         held[i] = Held {
             tick: slot.tick,
             pair: pair_for(slot, own, rows),
         };
     }
-    first_tick(&held, dwell, from)
+    first_tick(&held, book.dwell, from)
 }

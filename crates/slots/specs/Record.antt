@@ -13,6 +13,7 @@
 --     freed           free or as it was, by a test
 --     forgotten       a slot after forgetting: free if its carrier's last tick is before now (rule 13.5)
 --     forgetting      the same of every slot
+--     book_at         the book at a clock value, where whoever is past is forgotten
 --     LowestFree      the lowest free slot (rule 13.6)
 --     AsFree          the number of the lowest free slot, if some slot is free
 use Rattle.std.specs.Prelude.{◌≡◌, ◌≢◌, Bool, true, false, Option, Some, None, List, map, ℕ, ◌+◌, ◌≤◌, ◌<◌, ltb, eqb, length, get_or, replicate}
@@ -70,6 +71,9 @@ forgotten w now c = freed (ltb (last_tick w c) now) c
 
 unfoldable pub forgetting : (w now : ℕ) → List Slot → List Slot
 forgetting w now slots = map (forgotten w now) slots
+
+abbrev pub book_at : (now : ℕ) → Book → Book
+book_at now b = book_with now b.dwell (forgetting b.dwell now b.slots)
 
 -- ---- the slot that is taken
 

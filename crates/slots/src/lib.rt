@@ -12,7 +12,7 @@ ghost use Rattle.std.specs.Prelude.{◌≡◌, length};
 ghost use Rattle.hall.specs.Rule.{Answers};
 ghost use Rattle.hall.specs.Said.{Judged};
 ghost use Rattle.slots.specs.Record.{slot_count, slot_is_free, last_tick, StandsAt};
-ghost use Rattle.slots.specs.Record.{book_with, empty_book, forgotten, forgetting, AsFree};
+ghost use Rattle.slots.specs.Record.{book_with, empty_book, forgotten, book_at, AsFree};
 ghost use Rattle.slots.specs.Refusals.{BadHeld, SomeBadSlot, Damaged};
 ghost use Rattle.slots.specs.Questions.{book_question};
 
@@ -134,26 +134,26 @@ fn kept(slot: Slot, dwell: u32, clock: u32) -> Slot
 
 // ---- all slots
 
-// The slots of a book, where each carrier whose last tick is before the clock value is forgotten. That there
-// are 64 of them is said here, since a function of another crate that is lent a book does not see it.
-pub fn forget(book: &Book, clock: u32) -> [Slot; Book::SLOTS]
-    ensures forgets { result ≡ forgetting book.now.dwell clock book.now.slots }
+// The book at a clock value: each carrier whose last tick is before it is forgotten. That there are 64 slots
+// is said here, since a function of another crate that has a book does not see it.
+pub fn forget(book: &Book, clock: u32) -> Book
+    ensures forgets { result ≡ book_at clock book.now }
     ensures so_many { length book.now.slots ≡ slot_count }
 {
     let mut left = book.slots;
     for slot in &mut left {
         *slot = kept(*slot, book.dwell, clock);
     }
-    left
+    Book::with_slots(clock, book.dwell, left)
 }
 
 // The lowest free slot, if there is one.
 #[tactic(auto, using(crate::proofs::Slots::taken_by))]
-pub fn lowest_free(slots: [Slot; Book::SLOTS]) -> Option<usize>
-    ensures { AsFree slots result }
+pub fn lowest_free(book: &Book) -> Option<usize>
+    ensures { AsFree book.now.slots result }
 {
     for place in 0..Book::SLOTS {
-        if is_free(slots[place]) {
+        if is_free(book.slots[place]) {
             return Some(place);
         }
     }
@@ -161,24 +161,25 @@ pub fn lowest_free(slots: [Slot; Book::SLOTS]) -> Option<usize>
 }
 
 // Whether some carrier held has numbers that none can have.
-fn bad_slots(slots: [Slot; Book::SLOTS]) -> bool
-    ensures { Answers result (SomeBadSlot slots) }
+fn bad_slots(book: &Book) -> bool
+    ensures { Answers result (SomeBadSlot book.now.slots) }
 {
-    slots.iter().any(|slot| bad_slot(*slot))
+    book.slots.iter().any(|slot| bad_slot(*slot))
 }
 
 // ---- the record
 
 // Whether the record is damaged.
-fn damaged(book: Book) -> bool
-    ensures { Answers result (Damaged book) }
+fn damaged(book: &Book) -> bool
+    ensures { Answers result (Damaged book.now) }
 {
-    book.clock > Book::LAST_CLOCK || book.dwell as usize > Job::DWELL || bad_slots(book.slots)
+    book.clock > Book::LAST_CLOCK || book.dwell as usize > Job::DWELL || bad_slots(book)
 }
 
 // 16, then 14: the record, and the clock value t.
-pub fn check_book(book: Book, t: u32) -> Result<(), Refusal>
-    ensures { Judged (book_question book t) result }
+pub fn check_book(book: &Book, t: u32) -> Result<(), Refusal>
+    ensures judges { Judged (book_question book.now t) result }
+    ensures so_many { length book.now.slots ≡ slot_count }
 {
     if damaged(book) {
         return Err(Refusal::new(Fault::BadBook, 0));

@@ -4,7 +4,7 @@ use Rattle.std.proofs.Common.{◌≡◌, List, ℕ, ◌+◌, ◌<◌, ◌∙◌,
 use native.Mathlib.Numerals.{add-one}
 use lib.ListN.{set}
 use Rattle.slots.specs.declared.Slot.{Slot}
-use Rattle.slots.specs.Record.{free, forgotten, forgetting}
+use Rattle.slots.specs.Record.{free, forgotten, forgetting, book_with}
 use Rattle.slots.proofs.Lists.{doneTo, done_step, done_all}
 use Rattle.slots.proofs.forget.Goals as goal
 
@@ -26,4 +26,4 @@ loop-slot-preserved c =
 pub returns-clause-forgets : goal.returns-clause-forgets
 returns-clause-forgets c =
     let book = c.args.book.now in
-    whole book.dwell c.args.clock c.loop-slot.slot-index book.slots c.loop-slot.slot-items (omega arith) c.loop-slot.invariant
+    rw c.with_slots.ensures (ap (book_with c.args.clock book.dwell) (whole book.dwell c.args.clock c.loop-slot.slot-index book.slots c.loop-slot.slot-items (omega arith) c.loop-slot.invariant))

@@ -4,4 +4,4 @@ use Rattle.slots.specs.Record.{free, slot_at}
 use Rattle.slots.proofs.lowest_free.Given as goal
 
 abbrev pub invariant-loop-place : goal.invariant-loop-place
-invariant-loop-place l = (j : ℕ) → j < l.place → slot_at l.slots j ≢ free
+invariant-loop-place l = (j : ℕ) → j < l.place → slot_at l.book.slots j ≢ free

@@ -4,4 +4,4 @@ use Rattle.admission.specs.Steps.{Blocking}
 use Rattle.admission.proofs.ask.lowest_blocking.Given as goal
 
 abbrev pub invariant-loop-i : goal.invariant-loop-i
-invariant-loop-i l = (j : ℕ) → j < l.i → ¬ Blocking l.rows l.own l.dwell l.t l.slots j
+invariant-loop-i l = (j : ℕ) → j < l.i → ¬ Blocking l.rows l.own l.book.dwell l.t l.book.slots j

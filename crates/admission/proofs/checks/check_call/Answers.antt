@@ -19,7 +19,7 @@ returns-in_err-check_reached c =
     let b = a.book.now in
     let of_move = move_question N a.ends.start a.ends.goal in
     let of_slots = stale_slots N b.dwell a.t b.slots ∷ [] in
-    let book = sound_none (book_question b a.t) c.in_ok-check_book.was c.check_book.ensures in
+    let book = sound_none (book_question b a.t) c.in_ok-check_book.was c.check_book.ensures.judges in
     let p = err_from_is_err_and c.from_residual-in_err-check_reached.result c.from_residual-in_err-check_reached.ensures.1 in
     rw (p.1, p.2) (record {
       judged = first_after book (first_before of_slots (refused_first of_move c.in_err-check_reached.was c.check_reached.ensures.judged));
@@ -31,5 +31,5 @@ check_held-requires c =
     let a = c.args in
     let N = network_in a.network.now in
     let move = sound_none (move_question N a.ends.start a.ends.goal) c.in_ok-check_reached.was c.check_reached.ensures.judged in
-    let book = sound_none (book_question a.book.now a.t) c.in_ok-check_book.was c.check_book.ensures in
-    ((move_tells N a.ends.start a.ends.goal move).few_nodes, λ bad. (none_asked book).0 (bad_slot bad))
+    let book = sound_none (book_question a.book.now a.t) c.in_ok-check_book.was c.check_book.ensures.judges in
+    ((move_tells N a.ends.start a.ends.goal move).few_nodes, (λ bad. (none_asked book).0 (bad_slot bad)), c.check_book.ensures.so_many)

@@ -6,7 +6,7 @@ use Rattle.admission.specs.Steps.{Sieved}
 use Rattle.admission.proofs.stale.check_held.Given as goal
 
 abbrev pub invariant-loop-i : goal.invariant-loop-i
-invariant-loop-i l = Sieved (network_in l.network) l.dwell l.t l.slots l.i l.lowest
+invariant-loop-i l = Sieved (network_in l.network) l.book.dwell l.t l.book.slots l.i l.lowest
 
 abbrev pub decreases-loop-i : goal.decreases-loop-i
 decreases-loop-i l = 64 - l.i

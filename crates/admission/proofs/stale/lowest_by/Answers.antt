@@ -1,6 +1,6 @@
 -- `admission::stale::lowest_by` meets its contract: the first slot that is told to be stale is the lowest one.
 -- Assumes nothing.
-use Rattle.std.proofs.Common.{below_more, arith}
+use Rattle.std.proofs.Common.{arith}
 use Rattle.hall.proofs.Answers.{affirmed}
 use Rattle.admission.specs.Steps.{stale, none_stale}
 use Rattle.admission.proofs.stale.lowest_by.Goals as goal

@@ -21,4 +21,4 @@ returns c =
     let loop = c.loop-i in
     let a = c.args in
     let e : loop.i ≡ 64 = omega arith in
-    gathered_smallest a.rows.now a.own a.slots loop.held a.dwell (rw e at loop.invariant) c.first_tick.ensures
+    gathered_smallest a.rows.now a.own a.book.now.slots loop.held a.book.now.dwell (rw e at loop.invariant) c.first_tick.ensures
