@@ -1,18 +1,14 @@
 -- One entry of the list of closed nodes: it is faulty if it is no node, or if it is not higher than the entry
 -- before; and in no other way. The numbers come as the code has read them, with the equation that says where.
--- The entry before entry k stands at k - 1. And whether a node is one of the first k entries (`Found`), entry
--- by entry: `found_none`, `found_more`, `found_all`. Assumes nothing.
+-- The entry before entry k stands at k - 1. Assumes nothing.
 --     Faulty     the list has an entry k, and it is faulty
-use mathlib.Core.Path.{◌≡◌, ap, subst}
-use mathlib.Core.Logic.{◌⊎◌, inl, inr}
-use mathlib.Core.Bool.{Bool, true, false}
+--     Found      a node is one of the first k entries
+use mathlib.Core.Path.{◌≡◌, ap}
 use mathlib.Core.List.{List}
 use Prim.Native.Nat.{ℕ, ◌+◌, ◌-◌, ◌≤◌, ◌<◌}
-use native.Mathlib.Decide.{ℕ_discrete}
 use native.Mathlib.Omega.{arith}
 use lib.Dec.{leb}
 use lib.ListN.{length, get_or}
-use Rattle.hall.specs.Floor.{Closed}
 use Rattle.hall.specs.Rule.{Answers}
 use Rattle.hall.specs.Refusals.{ClosedFault, no_such_node, not_higher}
 use Rattle.network.proofs.Tests.{at_most_tells}
@@ -54,24 +50,3 @@ pub record Found (closed : List ℕ) (node k : ℕ) : Type 0 where
   pub place : ℕ
   pub before : place < k
   pub is : get_or closed place 0 ≡ node
-
-module _ (closed : List ℕ) (node : ℕ) where
-  pub found_none : ¬ Found closed node 0
-  found_none m = omega (arith, m.before)
-
-  pub found_more : (k : ℕ) (b b' : Bool) → Answers b (Found closed node k) →
-      ((get_or closed k 0 ≡ node) × (b' ≡ true)) ⊎ ((¬ (get_or closed k 0 ≡ node)) × (b' ≡ b)) →
-      Answers b' (Found closed node (k + 1))
-  found_more k b b' a (inl x) = rw x.1 (record { place = k; before = omega arith; is = x.0 })
-  found_more k true b' a (inr x) =
-      rw x.1 (record { place = a.place; before = omega (arith, a.before); is = a.is })
-  found_more k false b' a (inr x) = rw x.1 (λ m. last m (ℕ_discrete m.place k))
-    where
-      last : (m : Found closed node (k + 1)) → Dec (m.place ≡ k) → ⊥
-      last m (yes e) = x.0 (subst (λ (i : ℕ). get_or closed i 0 ≡ node) e m.is)
-      last m (no e) = a (record { place = m.place; before = omega (arith, m.before); is = m.is })
-
-  pub found_all : (k : ℕ) (b : Bool) → k ≡ length closed → Answers b (Found closed node k) →
-      Answers b (Closed closed node)
-  found_all k true e a = record { k = a.place; inside = omega (arith, a.before); is = a.is }
-  found_all k false e a = λ c. a (record { place = c.k; before = omega (arith, c.inside); is = c.is })

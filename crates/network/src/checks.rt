@@ -44,16 +44,10 @@ pub fn check_counts(
     ensures { Judged (counts nodes lane_numbers closed carriers order dwell) result }
 {
     let fault = Fault::BadCount;
-    if nodes < 1 {
+    if nodes < 1 || nodes > Job::NODES {
         return refused(fault, 0);
     }
-    if nodes > Job::NODES {
-        return refused(fault, 0);
-    }
-    if lane_numbers / 2 > Job::LANES {
-        return refused(fault, 1);
-    }
-    if lane_numbers % 2 == 1 {
+    if lane_numbers / 2 > Job::LANES || lane_numbers % 2 == 1 {
         return refused(fault, 1);
     }
     if closed > Job::NODES {
@@ -75,35 +69,22 @@ pub fn check_counts(
 pub(crate) fn number_at(list: &[u16], at: usize) -> u16
     ensures { result ≡ get_or list.now at 0 }
 {
-    if at < list.len() {
-        return list[at];
-    }
-    0
+    list.get(at).copied().unwrap_or(0)
 }
 
-// 4, 5 and 13, of one move at the place i: its ends are nodes, differ and are not closed. `fault` is the one
-// that is looked for.
+// 4, 5 and 13, of one move at the place i: its ends are nodes, differ and are not closed.
 pub fn check_ends(nodes: usize, closed: &[u16], ends: Ends, i: usize) -> Result<(), Refusal>
     ensures { Judged (only_at i (ends_checks nodes closed.now (λ p. ends.start) (λ p. ends.goal))) result }
 {
     let Ends { start, goal } = ends;
-    let mut fault = Fault::NoNode;
-    if start as usize >= nodes {
-        return refused(fault, i);
+    if start as usize >= nodes || goal as usize >= nodes {
+        return refused(Fault::NoNode, i);
     }
-    if goal as usize >= nodes {
-        return refused(fault, i);
-    }
-    fault = Fault::SameEnds;
     if start == goal {
-        return refused(fault, i);
+        return refused(Fault::SameEnds, i);
     }
-    fault = Fault::ClosedEnd;
-    if is_closed(closed, start) {
-        return refused(fault, i);
-    }
-    if is_closed(closed, goal) {
-        return refused(fault, i);
+    if is_closed(closed, start) || is_closed(closed, goal) {
+        return refused(Fault::ClosedEnd, i);
     }
     Ok(())
 }
@@ -129,19 +110,8 @@ fn order_fault(carriers: usize, order: &[u16], p: usize) -> bool
     if p >= order.len() {
         return false;
     }
-    let carrier = number_at(order, p);
-    if carrier as usize >= carriers {
-        return true;
-    }
-    let mut q: usize = 0;
-    while q < p {
-        let earlier = number_at(order, q);
-        if earlier == carrier {
-            return true;
-        }
-        q += 1;
-    }
-    false
+    let carrier = order[p];
+    carrier as usize >= carriers || order[..p].contains(&carrier)
 }
 
 // 7, of one place of the order: its entry is a carrier's number, and stands at no earlier place.

@@ -18,13 +18,9 @@ use hall::{Fault, Refusal};
 pub fn is_closed(closed: &[u16], node: u16) -> bool
     ensures { Answers result (Closed closed.now node) }
 {
-    let count = closed.len();
     let mut stands = false;
-    let mut k: usize = 0;
-    while k < count {
-        let entry = closed[k];
-        stands = if entry == node { true } else { stands };
-        k += 1;
+    for entry in closed {
+        stands |= *entry == node;
     }
     stands
 }

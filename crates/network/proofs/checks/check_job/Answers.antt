@@ -1,10 +1,17 @@
 -- The checks up to the order's entries, then those of the order behind them.
 use Rattle.std.proofs.Common.{[], ◌∷◌, length, rules}
 use Rattle.hall.specs.Job.{Numbers, job_in, carriers}
-use Rattle.hall.specs.Questions.{order_checks, each_order_place, moves_question}
-use Rattle.hall.proofs.Compose.{judged_then}
-use Rattle.network.proofs.EachEntry.{each_judged}
+use Rattle.hall.specs.Questions.{order_checks, each_order_place, moves_question, checks_question}
+use Rattle.hall.proofs.Compose.{first_before, refused_first, judged_then}
+use Rattle.network.proofs.EachEntry.{each_judged, returned}
 use Rattle.network.proofs.checks.check_job.Goals as goal
+
+pub returns-in_err-check_moves : goal.returns-in_err-check_moves
+returns-in_err-check_moves c =
+    let j = job_in c.args.job.now in
+    let first = refused_first (moves_question j) c.in_err-check_moves.was c.check_moves.ensures in
+    returned (checks_question j) _ _ c.from_residual.ensures.1
+    (first_before (each_order_place (carriers j) j.order ∷ []) first)
 
 pub returns : goal.returns
 returns c =

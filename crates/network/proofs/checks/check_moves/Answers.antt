@@ -1,6 +1,5 @@
 -- The counts, the lanes and the closed nodes were sound, one after the other; the moves' answer comes behind all
 -- of them.
-use Rattle.std.proofs.lemmas.Result.{err_from_is_err_and}
 use Rattle.std.proofs.Common.{[], ◌∷◌, ◌++◌, length, rules}
 use Rattle.hall.specs.Floor.{lanes_in}
 use Rattle.hall.specs.Job.{Numbers, job_in, move_count, carriers}
@@ -8,7 +7,7 @@ use Rattle.hall.specs.Stages.{Question, None}
 use Rattle.hall.specs.Said.{Judged}
 use Rattle.hall.specs.Questions.{counts, lane_checks, each_lane, closed_checks, each_closed, move_checks, each_move}
 use Rattle.hall.proofs.Compose.{none_append, sound_none, judged_after}
-use Rattle.network.proofs.EachEntry.{each_judged, exit_judged}
+use Rattle.network.proofs.EachEntry.{each_judged, returned_behind}
 use Rattle.network.proofs.checks.check_moves.Goals as goal
 use Rattle.network.proofs.checks.check_moves.Goals.{After-first_refusal, After-first_refusal-2, After-first_refusal-3}
 
@@ -56,20 +55,16 @@ lanes_passed c =
 pub returns-in_err-first_refusal : goal.returns-in_err-first_refusal
 returns-in_err-first_refusal c =
     let j = job_in c.args.job.now in
-    let e = c.from_residual-in_err-first_refusal in
-    let p = err_from_is_err_and e.result e.ensures.1 in
     let at = (goal.at.returns-in_err-first_refusal c).After-first_refusal in
-    rw (p.1, p.2) (exit_judged (counted-by j) (lanes-of j) (closed_of j ++ moves_of j) (counts_passed at)
-    c.in_err-first_refusal.was (lanes_judged at))
+    returned_behind (counted-by j) (lanes-of j) (closed_of j ++ moves_of j) (counts_passed at)
+    c.in_err-first_refusal.was (lanes_judged at) _ c.from_residual-in_err-first_refusal.ensures.1
 
 pub returns-in_err-first_refusal-2 : goal.returns-in_err-first_refusal-2
 returns-in_err-first_refusal-2 c =
     let j = job_in c.args.job.now in
-    let e = c.from_residual-in_err-first_refusal-2 in
-    let p = err_from_is_err_and e.result e.ensures.1 in
     let at = (goal.at.returns-in_err-first_refusal-2 c).After-first_refusal-2 in
-    rw (p.1, p.2) (exit_judged (counted-by j ++ lanes-of j) (closed_of j) (moves_of j) (lanes_passed at)
-    c.in_err-first_refusal-2.was (closed_judged at))
+    returned_behind (counted-by j ++ lanes-of j) (closed_of j) (moves_of j) (lanes_passed at)
+    c.in_err-first_refusal-2.was (closed_judged at) _ c.from_residual-in_err-first_refusal-2.ensures.1
 
 pub returns : goal.returns
 returns c =
