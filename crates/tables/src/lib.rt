@@ -9,7 +9,7 @@
 // finds is copied to the rows of all carriers whose start or goal its node is.
 #![tactic(auto)]
 
-ghost use Rattle.std.specs.Prelude.{ℕ, ◌+◌, ◌≤◌, ◌<◌, ◌≡◌, length, get_or};
+ghost use Rattle.std.specs.Prelude.{◌+◌, ◌≤◌, ◌<◌, length};
 ghost use Rattle.hall.specs.Limits.{carrier_limit, table_length};
 ghost use Rattle.hall.specs.Floor.{network_in};
 ghost use Rattle.hall.specs.Job.{move_count};
@@ -93,15 +93,15 @@ fn came_before(moves: &[u16], end: usize, node: u16) -> bool
     moves[..end].contains(&node)
 }
 
-// The rows of all carriers, over a table whose first places are zero. A node that came before, as a start or
-// as a goal, has its rows already and gets no second walk.
+// The rows of all carriers, over zeros in the least length. A node that came before, as a start or as a goal,
+// has its rows already and gets no second walk.
 fn fill_all(network: &Network, moves: &[u16], table: &mut [u16])
-    requires { TableServed (network_in network.now) moves.now (length table.old)
-        × ((x : ℕ) → x < table_length → get_or table.old x 0 ≡ 0) }
+    requires { TableServed (network_in network.now) moves.now (length table.old) }
     ensures { TableFilled (network_in network.now)
         moves.now
         table.old table.new }
 {
+    fill_first(table, Job::TABLE, 0);
     let ends = moves.len() / 2 * 2;
     for x in 0..ends {
         let node = moves[x];
@@ -124,7 +124,6 @@ pub fn fill(network: &Network, moves: &[u16], table: &mut [u16]) -> bool
     if !all_nodes(network.nodes, moves) {
         return false;
     }
-    fill_first(table, Job::TABLE, 0);
     fill_all(network, moves, table);
     true
 }
