@@ -3,7 +3,6 @@
 -- is where no row is.
 use Rattle.std.proofs.Common.{◌≡◌, ◌*◌, length, arith}
 use Rattle.hall.specs.Job.{move_count}
-use Rattle.hall.specs.Limits.{table_length}
 use Rattle.hall.specs.Floor.{network_in}
 use Rattle.tables.specs.Filling.{TableServed}
 use Rattle.hall.proofs.Left.{zeroed_below, zeroed_length}
@@ -28,6 +27,6 @@ returns c =
     let all : c.loop-x.x ≡ 2 * move_count c.args.moves.now = omega arith in
     let zeros = c.fill_first.ensures in
     let served : TableServed (network_in c.args.network.now) c.args.moves.now (length c.fill_first.new.list) =
-    rw (zeros, zeroed_length table_length c.args.table.now) c.requires in
+    rw (zeros, zeroed_length _ c.args.table.now) c.requires in
     over_zeroed c.args.table.now zeros
-    (filled_all _ _ _ served (λ x h. rw zeros (zeroed_below table_length c.args.table.now x h)) (rw all at c.loop-x.invariant))
+    (filled_all _ _ _ served (λ x h. rw zeros (zeroed_below _ c.args.table.now x h)) (rw all at c.loop-x.invariant))
