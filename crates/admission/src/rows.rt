@@ -39,6 +39,7 @@ fn starts_for(slot: Slot, between: u16) -> u16
 }
 
 // The pair of a slot and a move with its own distance and its rows.
+#[tactic(auto, unfolding(crate::specs::Steps::pair_for))]
 pub(crate) fn pair_for(slot: Slot, own: u16, rows: &Rows) -> Pair
     requires { (slot.start < node_limit) × (slot.goal < node_limit) }
     ensures { pair_in result ≡ pair_for rows.now own slot }

@@ -5,9 +5,6 @@ use Rattle.hall.proofs.Answers.{affirmed, denied}
 use Rattle.admission.specs.Steps.{blocking, none_blocks}
 use Rattle.admission.proofs.ask.lowest_blocking.Goals as goal
 
-pub loop-i-init : goal.loop-i-init
-loop-i-init c j l = omega arith
-
 pub returns-then-blocks : goal.returns-then-blocks
 returns-then-blocks c = blocking (omega arith) (affirmed _ c.if-blocks.true c.blocks-in-loop-i.ensures) c.loop-i.invariant
 

@@ -1,17 +1,9 @@
 -- `admission::tick::first_for` meets its contract: none is gathered in a list of nobody, one slot more is
 -- with each turn, and the search over the list that all are gathered in has the smallest tick. Assumes
 -- nothing.
-use Rattle.std.proofs.Common.{◌≡◌, refl, arith}
-use Rattle.admission.proofs.Gathering.{gathered_none, gathered_more, gathered_smallest}
+use Rattle.std.proofs.Common.{◌≡◌, arith}
+use Rattle.admission.proofs.Gathering.{gathered_more, gathered_smallest}
 use Rattle.admission.proofs.tick.first_for.Goals as goal
-
-pub loop-i-init : goal.loop-i-init
-loop-i-init c = gathered_none _ _ _ _ refl
-
-pub pair_for-requires : goal.pair_for-requires
-pair_for-requires c =
-    let i = c.loop-i.i in
-    (c.requires.starts i (omega arith), c.requires.goals i (omega arith))
 
 pub loop-i-preserved : goal.loop-i-preserved
 loop-i-preserved c = gathered_more _ _ _ c.loop-i.held c.loop-i.i (omega arith) c.loop-i.invariant c.pair_for.ensures
