@@ -1,7 +1,7 @@
 // The rows of distances of a move, and by them the pair that it makes with a slot. A free slot makes one with
 // the mark for "no walk" in the place of the distance between the starts, and so forbids nothing: its zeros
 // would be a carrier that stands on node 0 at tick 0.
-ghost use Rattle.std.specs.Prelude.{◌≡◌, ◌<◌};
+ghost use Rattle.std.specs.Prelude.{◌≡◌, ◌<◌, replicate};
 ghost use Rattle.hall.specs.Limits.{node_limit};
 ghost use Rattle.slots.specs.Record.{slot_is_free};
 ghost use Rattle.rule.specs.Held.{pair_in};
@@ -20,7 +20,9 @@ pub struct Rows {
 
 impl Rows {
     // Room for the rows of any move.
-    pub fn blank() -> Self {
+    pub fn blank() -> Self
+        ensures { result ≡ record { outward = replicate node_limit 0; inward = replicate node_limit 0 } }
+    {
         Rows {
             outward: [0; Job::NODES],
             inward: [0; Job::NODES],
