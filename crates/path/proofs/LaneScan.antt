@@ -3,22 +3,19 @@
 -- with all of them passed, no lane joins a and b. Assumes nothing.
 --     Passed    none of the lanes before place i of the list joins a and b
 use mathlib.Core.Path.{◌≡◌, sym, ◌∙◌}
-use mathlib.Core.Bool.{true, false, ◌&&◌}
+use mathlib.Core.Bool.{false, ◌&&◌}
 use mathlib.Core.List.{List}
 use Prim.Native.Nat.{ℕ, ◌+◌, ◌*◌, ◌%◌, ◌≤◌, ◌<◌}
 use native.Mathlib.Decide.{dec_lt}
 use native.Mathlib.Omega.{arith}
 use lib.Dec.{eqb}
 use lib.ListN.{length, get_or}
-use Rattle.std.proofs.lemmas.Bool.{eqb-true, eq-eqb, and_parts, and_from}
+use Rattle.std.proofs.lemmas.Bool.{eq-eqb, and_from}
 use Rattle.hall.proofs.Answers.{true_not_false}
 use Rattle.hall.specs.Floor.{Lane}
 use Rattle.hall.proofs.LaneList.{LaneBefore, earlier, forth, back, lane_before}
 
--- ---- what the test of a pair against another tells
-
-pub same_pair : (x y a b : ℕ) → true ≡ (eqb x a && eqb y b) → (x ≡ a) × (y ≡ b)
-same_pair x y a b e = let p = and_parts _ _ (sym e) in (eqb-true x a p.0, eqb-true y b p.1)
+-- ---- a pair that the test finds to be another
 
 pub other_pair : (x y a b : ℕ) → false ≡ (eqb x a && eqb y b) → (x ≡ a) × (y ≡ b) → ⊥
 other_pair x y a b e h = true_not_false (sym (and_from _ _ (eq-eqb x a h.0) (eq-eqb y b h.1)) ∙ sym e)

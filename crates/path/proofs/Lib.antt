@@ -2,7 +2,6 @@
 -- over them; a list against the terms of a shortest path. Last what the answers owe to each other: agreement,
 -- one answer for each input, what each answer tells exactly, and that no path stands on a closed node.
 pub mod Reached
-pub mod LanePairs
 pub mod StepPairs
 pub mod LaneScan
 pub mod NextNode

@@ -72,16 +72,15 @@ module _ {lanes row : List ℕ} {u a b wanted : ℕ} (lane : a ≡ u → Lane la
 
 -- ---- a lane in both directions
 
-pub seeking_lane : {lanes row : List ℕ} {u wanted i a b : ℕ} {best₁ best₂ best₃ : Option ℕ} →
-    i % 2 ≡ 0 → i + 1 < length lanes → get_or lanes i 0 ≡ a → get_or lanes (i + 1) 0 ≡ b
-    → Seeking lanes row u wanted i best₁
-    → Nearer row u a b wanted best₁ best₂
-    → Nearer row u b a wanted best₂ best₃
+pub seeking_lane : {lanes row : List ℕ} {u wanted i : ℕ} {best₁ best₂ best₃ : Option ℕ} →
+    i % 2 ≡ 0 → i + 1 < length lanes → Seeking lanes row u wanted i best₁
+    → Nearer row u (get_or lanes i 0) (get_or lanes (i + 1) 0) wanted best₁ best₂
+    → Nearer row u (get_or lanes (i + 1) 0) (get_or lanes i 0) wanted best₂ best₃
     → Seeking lanes row u wanted (i + 2) best₃
-seeking_lane {lanes} {row} {u} {wanted} {i} {a} {b} {best₁} {best₂} {best₃} even inside first second s x y = record {
+seeking_lane {lanes} {row} {u} {wanted} {i} {best₁} {best₂} {best₃} even inside s x y = record {
   is_next =
-      still_next (λ e. lane_back_at lanes i even inside first (second ∙ e))
-      (still_next (λ e. lane_at lanes i even inside (first ∙ e) second) s.is_next x) y;
+      still_next (λ e. lane_back_at lanes i even inside refl e)
+      (still_next (λ e. lane_at lanes i even inside e refl) s.is_next x) y;
   lowest = λ v n l. cases v n (lane_before lanes i even n.lane l);
 }
   where
@@ -89,16 +88,8 @@ seeking_lane {lanes} {row} {u} {wanted} {i} {a} {b} {best₁} {best₂} {best₃
     cases v n (earlier l) = never_rises y v (never_rises x v (s.lowest v n l))
     cases v n (forth p q) =
         never_rises y v
-        (let e : b ≡ v = sym second ∙ q in
-        rw e at (not_above_end x (record {
-          from_here = sym first ∙ p;
-          numbered = rw e n.numbered;
-          at_distance = rw e n.at_distance;
-        })))
+        (rw q at
+        (not_above_end x (record { from_here = p; numbered = rw q n.numbered; at_distance = rw q n.at_distance })))
     cases v n (back p q) =
-        let e : a ≡ v = sym first ∙ p in
-        rw e at (not_above_end y (record {
-          from_here = sym second ∙ q;
-          numbered = rw e n.numbered;
-          at_distance = rw e n.at_distance;
-        }))
+        rw p at
+        (not_above_end y (record { from_here = q; numbered = rw p n.numbered; at_distance = rw p n.at_distance }))

@@ -48,9 +48,11 @@ fn next_node(lanes: &[u16], row: &[u16], u: u16, wanted: u16) -> Option<u16>
     ensures { LowestNext lanes.now row.now u wanted result }
 {
     let mut best = None;
-    for lane in lanes.chunks_exact(2) {
-        best = nearer(row, u, lane[0], lane[1], wanted, best);
-        best = nearer(row, u, lane[1], lane[0], wanted, best);
+    for k in 0..lanes.len() / 2 {
+        let a = lanes[2 * k];
+        let b = lanes[2 * k + 1];
+        best = nearer(row, u, a, b, wanted, best);
+        best = nearer(row, u, b, a, wanted, best);
     }
     best
 }
@@ -104,8 +106,8 @@ pub fn house(network: &Network, ends: Ends, path: &mut [u16]) -> Result<usize, R
 fn joined(lanes: &[u16], a: u16, b: u16) -> bool
     ensures { Answers result (Lane lanes.now a b) }
 {
-    for lane in lanes.chunks_exact(2) {
-        let pair = (lane[0], lane[1]);
+    for k in 0..lanes.len() / 2 {
+        let pair = (lanes[2 * k], lanes[2 * k + 1]);
         if pair == (a, b) || pair == (b, a) {
             return true;
         }
