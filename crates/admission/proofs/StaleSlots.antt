@@ -17,10 +17,11 @@ use Prim.Native.Nat.{ℕ, ◌+◌, ◌≤◌, ◌<◌}
 use native.Mathlib.Nat.{not-suc-le-zero}
 use native.Mathlib.Decide.{dec_lt}
 use native.Mathlib.Omega.{arith}
-use lib.ListN.{length, get_or}
+use lib.ListN.{length, get_or, take}
 use borrow.Author.Count.{below_more}
 use Rattle.std.specs.Prelude.{Option, Some, unwrap_or}
 use Rattle.std.specs.Bool.{then_some}
+use Rattle.std.proofs.lemmas.List.{get_or-take, length-take}
 use Rattle.hall.specs.Limits.{node_limit, distance_limit}
 use Rattle.hall.specs.Floor.{Dist, DistanceIs, no_walk, distance, Network, floor}
 use Rattle.hall.specs.Rule.{Answers}
@@ -46,12 +47,16 @@ stands_there w t start c true e h = record { stands = h; from_there = e }
 stands_there w t start c false e k = λ h. k h.stands
 
 -- where the row tells the distance held, it is not stale
-pub on_row : {nodes start w t : ℕ} {row : List ℕ} {c : Slot} → c.goal < nodes → get_or row c.goal 0 ≡ c.distance → ¬ StaleBy nodes (Some row) start w t c
-on_row {nodes} {row = row} {c = c} l e s = off s.off
+pub on_row : {start w t : ℕ} {row : List ℕ} {c : Slot} → c.goal < length row → get_or row c.goal 0 ≡ c.distance → ¬ StaleBy (Some row) start w t c
+on_row {row = row} {c = c} l e s = off s.off
   where
-    off : OffRow nodes c (Some row) → ⊥
+    off : OffRow c (Some row) → ⊥
     off (no_goal g) = omega arith
     off (other_number k) = k e
+
+-- the row as it is told, with a place for each node, where the walk was served
+abbrev pub told : (nodes : ℕ) → Bool → List ℕ → Option (List ℕ)
+told nodes r left = then_some r (take nodes left)
 
 module _ (N : Network) (c : Slot) where
   pub goal_off : N.nodes ≤ c.goal → ¬ Dist (floor N) c.start c.goal c.distance
@@ -78,23 +83,26 @@ module _ (N : Network) (c : Slot) where
   -- by the row of its start
   module _ (w t : ℕ) {row left : List ℕ} {r : Bool} (few : N.nodes ≤ node_limit) (size : length row ≡ node_limit) (rowed : Rowed N c.start row left r)
       (small : c.distance ≤ distance_limit) where
-    pub row_stale : {start : ℕ} → StaleBy N.nodes (then_some r left) start w t c → StaleAt N w t c
+    pub row_stale : {start : ℕ} → StaleBy (told N.nodes r left) start w t c → StaleAt N w t c
     row_stale s = record { stands = s.there.stands; other = by r rowed s.off }
       where
-        by : (r : Bool) → Rowed N c.start row left r → OffRow N.nodes c (then_some r left) → ¬ Dist (floor N) c.start c.goal c.distance
-        by false told off d = start_off few size told refl d
-        by true told (no_goal l) d = goal_off l d
-        by true (refused e n same) (other_number k) d = absurd (true_not_false e)
-        by true (filled e h f) (other_number k) d = k ((row_tells (f.holds c.goal (ends_on_node d.walk).numbered) small).1 d)
+        by : (r : Bool) → Rowed N c.start row left r → OffRow c (told N.nodes r left) → ¬ Dist (floor N) c.start c.goal c.distance
+        by false was off d = start_off few size was refl d
+        by true (refused e n same) off d = absurd (true_not_false e)
+        by true (filled e h f) (no_goal l) d = goal_off (omega (arith, length-take N.nodes left, f.size)) d
+        by true (filled e h f) (other_number k) d =
+            let inside = (ends_on_node d.walk).numbered in
+            k (get_or-take N.nodes left c.goal 0 inside ∙ (row_tells (f.holds c.goal inside) small).1 d)
 
-    pub stale_row : StaleAt N w t c → StaleBy N.nodes (then_some r left) c.start w t c
+    pub stale_row : StaleAt N w t c → StaleBy (told N.nodes r left) c.start w t c
     stale_row s = record { there = record { stands = s.stands; from_there = refl }; off = by r rowed (dec_lt c.goal N.nodes) }
       where
-        by : (r : Bool) → Rowed N c.start row left r → Dec (c.goal < N.nodes) → OffRow N.nodes c (then_some r left)
-        by false told l = no_row
+        by : (r : Bool) → Rowed N c.start row left r → Dec (c.goal < N.nodes) → OffRow c (told N.nodes r left)
+        by false was l = no_row
         by true (refused e n same) l = absurd (true_not_false e)
-        by true (filled e h f) (no l) = no_goal (omega arith)
-        by true (filled e h f) (yes l) = other_number (λ e. s.other ((row_tells (f.holds c.goal l) small).0 e))
+        by true (filled e h f) (no l) = no_goal (omega (arith, length-take N.nodes left))
+        by true (filled e h f) (yes l) =
+            other_number (λ e. s.other ((row_tells (f.holds c.goal l) small).0 (sym (get_or-take N.nodes left c.goal 0 l) ∙ e)))
 
 -- ---- slot by slot
 
@@ -150,7 +158,7 @@ module _ (N : Network) (w t : ℕ) (slots : List Slot) (size : length slots ≡ 
     module _ {row left : List ℕ} {served : Bool} (few : N.nodes ≤ node_limit) (wide : length row ≡ node_limit) (rowed : Rowed N (slot_at slots i).start row left served)
         (small : (p : ℕ) → p < slot_count → (slot_at slots p).distance ≤ distance_limit) (first : ¬ StandsBefore w t slots (slot_at slots i).start i) where
       -- a slot before i with this start would stand before i; one from i on was judged
-      judged : (r : ℕ) → r ≤ lowest → ((p : ℕ) → p < r → i ≤ p → ¬ StaleBy N.nodes (then_some served left) (slot_at slots i).start w t (slot_at slots p))
+      judged : (r : ℕ) → r ≤ lowest → ((p : ℕ) → p < r → i ≤ p → ¬ StaleBy (told N.nodes served left) (slot_at slots i).start w t (slot_at slots p))
           → (r < slot_count → StaleAt N w t (slot_at slots r)) → Sieved N w t slots (i + 1) r
       judged r within none now_stale = record {
         most = omega (arith, s.most);
@@ -166,9 +174,9 @@ module _ (N : Network) (w t : ℕ) (slots : List Slot) (size : length slots ≡ 
               cases (no z) =
                   let there : Rowed N (slot_at slots p).start row left served = rw e rowed in
                   let by = stale_row N (slot_at slots p) w t few wide there (small p (omega (arith, s.most))) k in
-                  none p m (omega arith) (subst (λ (a : ℕ). StaleBy N.nodes (then_some served left) a w t (slot_at slots p)) e by)
+                  none p m (omega arith) (subst (λ (a : ℕ). StaleBy (told N.nodes served left) a w t (slot_at slots p)) e by)
 
-      pub sieve_judged : {o : Option ℕ} → LowestBy N.nodes (then_some served left) (slot_at slots i).start w t slots i lowest o → Sieved N w t slots (i + 1) (unwrap_or o lowest)
+      pub sieve_judged : {o : Option ℕ} → LowestBy (told N.nodes served left) (slot_at slots i).start w t slots i lowest o → Sieved N w t slots (i + 1) (unwrap_or o lowest)
       sieve_judged (none_stale none) = judged lowest (omega arith) none s.stale
       sieve_judged (stale {r} l by none) = judged r (omega arith) none (λ m.
           let there : Rowed N (slot_at slots r).start row left served = rw by.there.from_there rowed in

@@ -3,8 +3,9 @@
 --                      on the network is not the one held
 --     StandsFrom       a slot with this start holds a carrier whose last tick is t or later
 --     StandsBefore     some slot before place i does
---     OffRow           the row from a carrier's start does not tell the distance held: there is none, since
---                      the walk was refused; the goal is no node; or the row has another number there
+--     OffRow           the row from a carrier's start, which has a place for each node, does not tell the
+--                      distance held: there is none, since the walk was refused; the goal is no node; or the
+--                      row has another number there
 --     StaleBy          a slot with this start stands so, and the row from there does not tell its distance
 --     LowestBy         the lowest such slot from the place `from` on and before the place `end`, if there is
 --                      one
@@ -59,21 +60,22 @@ pub record StandsBefore (w t : ℕ) (slots : List Slot) (start i : ℕ) : Type 0
   pub earlier : place < i
   pub there : StandsFrom w t start (slot_at slots place)
 
-pub data OffRow (nodes : ℕ) (c : Slot) : Option (List ℕ) → Type 0 where
-  no_row : OffRow nodes c None
-  no_goal : {row : List ℕ} → nodes ≤ c.goal → OffRow nodes c (Some row)
-  other_number : {row : List ℕ} → get_or row c.goal 0 ≢ c.distance → OffRow nodes c (Some row)
+pub data OffRow (c : Slot) : Option (List ℕ) → Type 0 where
+  no_row : OffRow c None
+  no_goal : {row : List ℕ} → length row ≤ c.goal → OffRow c (Some row)
+  other_number : {row : List ℕ} → get_or row c.goal 0 ≢ c.distance → OffRow c (Some row)
 
-pub record StaleBy (nodes : ℕ) (row : Option (List ℕ)) (start w t : ℕ) (c : Slot) : Type 0 where
+pub record StaleBy (row : Option (List ℕ)) (start w t : ℕ) (c : Slot) : Type 0 where
   pub there : StandsFrom w t start c
-  pub off : OffRow nodes c row
+  pub off : OffRow c row
 
-pub data LowestBy (nodes : ℕ) (row : Option (List ℕ)) (start w t : ℕ) (slots : List Slot) (from end : ℕ) : Option ℕ → Type 0 where
-  stale : {r : ℕ} → r < end → StaleBy nodes row start w t (slot_at slots r)
-      → ((p : ℕ) → p < r → from ≤ p → ¬ StaleBy nodes row start w t (slot_at slots p))
-      → LowestBy nodes row start w t slots from end (Some r)
-  none_stale : ((p : ℕ) → p < end → from ≤ p → ¬ StaleBy nodes row start w t (slot_at slots p))
-      → LowestBy nodes row start w t slots from end None
+pub data LowestBy (row : Option (List ℕ)) (start w t : ℕ) (slots : List Slot) (from end : ℕ) :
+    Option ℕ → Type 0 where
+  stale : {r : ℕ} → r < end → StaleBy row start w t (slot_at slots r)
+      → ((p : ℕ) → p < r → from ≤ p → ¬ StaleBy row start w t (slot_at slots p))
+      → LowestBy row start w t slots from end (Some r)
+  none_stale : ((p : ℕ) → p < end → from ≤ p → ¬ StaleBy row start w t (slot_at slots p))
+      → LowestBy row start w t slots from end None
 
 pub record Sieved (N : Network) (w t : ℕ) (slots : List Slot) (i lowest : ℕ) : Type 0 where
   pub most : lowest ≤ slot_count

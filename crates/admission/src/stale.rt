@@ -38,16 +38,8 @@ fn judged_before(book: &Book, start: u16, t: u32, i: usize) -> bool
 // Whether a slot with this start holds a carrier whose last tick is t or later, and whose distance is not the
 // one that the row from its start tells. Where its start is no node there is no row; where one of its ends is
 // no open node there is no walk, and so no distance.
-fn stale_by(
-    nodes: usize,
-    row: Option<&[u16; Job::NODES]>,
-    start: u16,
-    slot: Slot,
-    dwell: u32,
-    t: u32,
-) -> bool
-    requires { nodes ≤ node_limit }
-    ensures { Answers result (StaleBy nodes (option_copied row.entry) start dwell t slot) }
+fn stale_by(row: Option<&[u16]>, start: u16, slot: Slot, dwell: u32, t: u32) -> bool
+    ensures { Answers result (StaleBy (option_copied row.entry) start dwell t slot) }
 {
     if !stands_from(slot, start, dwell, t) {
         return false;
@@ -56,7 +48,7 @@ fn stale_by(
         return true;
     };
     let goal = slot.goal as usize;
-    if goal >= nodes {
+    if goal >= row.len() {
         return true;
     }
     if row[goal] == slot.distance {
@@ -68,19 +60,18 @@ fn stale_by(
 // The lowest slot from a place on, and before another, that the row from this start tells to be stale, if
 // there is one.
 fn lowest_by(
-    nodes: usize,
-    row: Option<&[u16; Job::NODES]>,
+    row: Option<&[u16]>,
     start: u16,
     book: &Book,
     t: u32,
     from: usize,
     end: usize,
 ) -> Option<usize>
-    requires { (nodes ≤ node_limit) × (end ≤ slot_count) }
-    ensures { LowestBy nodes (option_copied row.entry) start book.now.dwell t book.now.slots from end result }
+    requires { end ≤ slot_count }
+    ensures { LowestBy (option_copied row.entry) start book.now.dwell t book.now.slots from end result }
 {
     for p in from..end {
-        if stale_by(nodes, row, start, book.slots[p], book.dwell, t) {
+        if stale_by(row, start, book.slots[p], book.dwell, t) {
             return Some(p);
         }
     }
@@ -104,8 +95,8 @@ fn sieve(network: &Network, book: &Book, t: u32, i: usize, lowest: usize) -> usi
         return lowest;
     }
     let served = walk::distances(network, slot.start, &mut row);
-    let told = served.then_some(&row);
-    lowest_by(network.nodes, told, slot.start, book, t, i, lowest).unwrap_or(lowest)
+    let told = served.then_some(&row[..network.nodes]);
+    lowest_by(told, slot.start, book, t, i, lowest).unwrap_or(lowest)
 }
 
 // 17, at the lowest slot. The loop ends when all slots below the lowest stale one that was found are judged.

@@ -6,4 +6,4 @@ use Rattle.admission.specs.Steps.{StaleBy}
 use Rattle.admission.proofs.stale.lowest_by.Given as goal
 
 abbrev pub invariant-loop-p : goal.invariant-loop-p
-invariant-loop-p l = (q : ℕ) → q < l.p → l.from ≤ q → ¬ StaleBy l.nodes (option_copied l.row) l.start l.book.dwell l.t (slot_at l.book.slots q)
+invariant-loop-p l = (q : ℕ) → q < l.p → l.from ≤ q → ¬ StaleBy (option_copied l.row) l.start l.book.dwell l.t (slot_at l.book.slots q)
