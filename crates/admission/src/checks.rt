@@ -28,15 +28,6 @@ fn check_walk(network: &Network, ends: Ends, rows: &mut Rows) -> Result<(), Refu
     Ok(())
 }
 
-// The checks of the network and the move: 2, 3, 12, 4, 5, 13 and 8. Where none holds, the rows have the
-// distances from the start and from the goal.
-fn check_reached(network: &Network, ends: Ends, rows: &mut Rows) -> Result<(), Refusal>
-    ensures { Reached (network_in network.now) ends.start ends.goal rows.new result }
-{
-    check_move(network, ends)?;
-    check_walk(network, ends, rows)
-}
-
 // The checks of a call with a book, a clock value and a move: 16, 14, those of the network and the move, 17.
 // Where none holds, the rows have the distances from the start and from the goal.
 pub(crate) fn check_call(
@@ -49,7 +40,8 @@ pub(crate) fn check_call(
     ensures { Called (network_in network.now) book.now t ends.start ends.goal rows.new result }
 {
     check_book(book, t)?;
-    check_reached(network, ends, rows)?;
+    check_move(network, ends)?;
+    check_walk(network, ends, rows)?;
     check_held(network, book, t)
 }
 
