@@ -8,8 +8,8 @@
 --                     the lowest of all slots that do
 --     Right           so it is of an answer that is no refusal
 --     Asking          the promise: the answer fits the question, and its verdict is right
---     said_asked       what is answered: a verdict, which names the lowest slot that forbids it if one does, or
---                     a refusal
+--     verdict_of      the verdict where the lowest slot that forbids it is told, if there is one
+--     said_asked      what is answered: a verdict, or a refusal
 use Rattle.std.specs.Prelude.{Option, Some, None, Result, List, ℕ, ◌<◌, pos, ◌-ℤ◌}
 use Rattle.hall.specs.Floor.{Network, floor}
 use Rattle.hall.specs.Rule.{Pair, Forbidden}
