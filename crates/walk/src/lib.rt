@@ -103,11 +103,7 @@ fn settle(row: &mut [u16])
 fn greatest(numbers: &[u16]) -> u16
     ensures { Greatest numbers.now result }
 {
-    let mut top = 0;
-    for &x in numbers {
-        top = x.max(top);
-    }
-    top
+    numbers.iter().copied().max().unwrap_or(0)
 }
 
 // One look at a lane: where both ends are nodes, and their labels are two or more apart, the higher label

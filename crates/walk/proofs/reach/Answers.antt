@@ -25,17 +25,6 @@ loop-todo-init c =
     let unswept : Unswept network c.args.source c.args.row.now c.spread_near.new.row = unswept_spread begun only in
     (walking_first c.requires.0 unswept, unswept)
 
-pub sweep-todo-requires : goal.sweep-todo-requires
-sweep-todo-requires c =
-    let long : length c.loop-todo.row ≡ c.args.network.now.nodes = omega (arith, c.requires.1) in
-    rw (long, c.of-lanes.ensures) c.loop-todo.invariant.0.sweepable
-
-pub overflow_add-sweeps : goal.overflow_add-sweeps
-overflow_add-sweeps c = omega (arith, c.loop-todo.invariant.0.few, c.requires.0.few)
-
-pub loop-todo-smaller : goal.loop-todo-smaller
-loop-todo-smaller c = omega (arith, c.loop-todo.invariant.0.more (omega arith))
-
 pub loop-todo-preserved : goal.loop-todo-preserved
 loop-todo-preserved c =
     let long : length c.loop-todo.row ≡ c.args.network.now.nodes = omega (arith, c.requires.1) in

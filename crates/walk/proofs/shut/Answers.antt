@@ -1,12 +1,9 @@
 -- One entry more has been gone through after each turn: one that is a node is marked, another changes
 -- nothing.
 use Rattle.std.proofs.Common.{arith}
-use Rattle.walk.proofs.WalkMarks.{shutting_none, shutting_node, shutting_other, shutting_all}
+use Rattle.walk.proofs.WalkMarks.{shutting_node, shutting_other}
 use Rattle.walk.proofs.shut.Goals as goal
 use Rattle.walk.proofs.shut.Goals.{then-place-row, else-place-row}
-
-pub loop-node-init : goal.loop-node-init
-loop-node-init c = shutting_none _ c.args.closed.now c.args.row.now
 
 pub loop-node-preserved : goal.loop-node-preserved
 loop-node-preserved c =
@@ -15,6 +12,3 @@ loop-node-preserved c =
       | then-place-row w ↦ rw w.row-is (shutting_node s (omega arith) (omega arith) (omega arith))
       | else-place-row w ↦ rw w.row-is (shutting_other s (omega arith))
     ]
-
-pub returns : goal.returns
-returns c = shutting_all c.loop-node.invariant (omega arith)

@@ -1,12 +1,9 @@
 -- Labels only fall at a look at a lane, at most one of them; a lane whose labels have another sum changes
 -- nothing.
 use Rattle.std.proofs.Common.{◌≤◌, length, arith}
-use Rattle.walk.proofs.WalkFalls.{only_fell_none, only_fell_then, only_fell_look}
+use Rattle.walk.proofs.WalkFalls.{only_fell_then, only_fell_look}
 use Rattle.walk.proofs.spread.Goals as goal
 use Rattle.walk.proofs.spread.Goals.{then-x-y+then-look, else-x-y, else-x-y-via-then-x-y+else-look, else-x-y-via-else-x-y}
-
-pub loop-k-init : goal.loop-k-init
-loop-k-init c = (only_fell_none, omega arith)
 
 pub loop-k-preserved : goal.loop-k-preserved
 loop-k-preserved c =
