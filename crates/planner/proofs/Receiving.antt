@@ -4,7 +4,7 @@
 --     same_lent           lent lists are the same if each is
 --     short_received      9 is answered
 --     checked_received    past 9, what the checks answer is answered
---     is_received, received_refuses    what an answer tells: the job is received, or its plan is refused
+--     received_refuses    what a refusal tells: the plan is refused
 use mathlib.Core.Path.{◌≡◌, refl, sym, ◌∙◌, ap}
 use mathlib.Core.List.{[], ◌∷◌}
 use Prim.Native.Nat.{ℕ}
@@ -20,7 +20,7 @@ use Rattle.hall.proofs.Compose.{first_before}
 use Rattle.hall.proofs.Places.{asked_here, asked_later, asked_clear}
 use Rattle.hall.proofs.Left.{NotNine, left_by_other, first_among}
 use Rattle.planner.specs.Planning.{Lent, ShortOf, NumbersRefused}
-use Rattle.planner.specs.Receiving.{cleared_of, left_of, Received, ReceivedRefused, Receiving}
+use Rattle.planner.specs.Receiving.{cleared_of, left_of, ReceivedRefused, Receiving}
 
 pub same_lent : {u v : Lent} → u.table ≡ v.table → u.distances ≡ v.distances → u.ticks ≡ v.ticks → u ≡ v
 same_lent t d k = λ i. record { table = t i; distances = d i; ticks = k i }
@@ -46,9 +46,6 @@ module _ (j : Numbers) (l : Lent) where
   }
 
 module _ {j : Numbers} {before after : Lent} {c : Result Unit Refusal} where
-  pub is_received : c ≡ Ok tt → Receiving j before after (said_checked c) → Received j before after
-  is_received e a = rw e at a
-
   pub received_refuses : {r : Refusal} → c ≡ Err r → Receiving j before after (said_checked c) →
       NumbersRefused j before after (number_of r.fault) r.place
   received_refuses {r} e a =

@@ -1,12 +1,20 @@
--- The move has no fault, and the row is downhill. The list's length is held to the distance that the row has for
+-- A refusal of the move is the list's. Otherwise the move has no fault, and the row is downhill. The list's length is held to the distance that the row has for
 -- the start, its nodes to the row, where no closed node has a distance, and its steps to the lanes: all three hold
 -- exactly if the list is a shortest path.
 use Rattle.std.proofs.Common.{refl}
+use Rattle.std.proofs.lemmas.Result.{err_from_is_err_and}
+use Rattle.hall.proofs.Compose.{first_before}
 use Rattle.path.proofs.Listed.{list_passes, list_unfit}
 use Rattle.path.proofs.judge.Goals as goal
 use Rattle.path.proofs.judge.Goals.{else-list-whole-via-then-list-whole+then-all_on_way+else-walks}
 use Rattle.path.proofs.judge.Goals.{else-list-whole-via-then-list-whole+else-all_on_way}
 use Rattle.path.proofs.judge.Goals.{else-list-whole-via-else-list-whole}
+
+pub returns-in_err-reached : goal.returns-in_err-reached
+returns-in_err-reached c =
+    let p = err_from_is_err_and c.from_residual.result c.from_residual.ensures.1 in
+    rw (p.1, p.2)
+    (record { judged = first_before _ c.in_err-reached.ensures; network_kept = refl; list_kept = refl })
 
 pub returns-then-walks : goal.returns-then-walks
 returns-then-walks c =

@@ -1,11 +1,13 @@
--- A received job is measured: 8 refuses it, or it is ready, so that it has its start ticks and is planned
+-- A refusal of receiving is one of planning. A received job is measured: 8 refuses it, or it is ready, so that it has its start ticks and is planned
 -- (`ready_planned`). What is received is served, so measuring never ends as unserved, and there are start ticks.
 use Rattle.std.proofs.Common.{◌∙◌, ap, Err}
+use Rattle.std.proofs.lemmas.Result.{err_from_is_err_and}
 use Rattle.hall.specs.Job.{Numbers, job_in}
 use Rattle.tables.proofs.Measuring.{says_all, says_lost, served_measured}
 use Rattle.planner.specs.Planning.{Lent, lent}
 use Rattle.planner.specs.Receiving.{Received}
 use Rattle.ticks.proofs.Outcome.{is_given}
+use Rattle.planner.proofs.Receiving.{received_refuses}
 use Rattle.planner.proofs.Outcome.{served_timed}
 use Rattle.planner.proofs.Ready.{measure_served, ready_lost, ready_served, ready_planned}
 use Rattle.planner.proofs.plan_moves.Goals as goal
@@ -25,6 +27,11 @@ mid c = lent c.receive.new.table c.receive.new.distances c.receive.new.ticks
 -- what is measured was received
 received : (c : In_ok-receive) → Received (job c) (came c) (mid c)
 received c = c.in_ok-receive.ensures
+
+pub returns-in_err-receive : goal.returns-in_err-receive
+returns-in_err-receive c =
+    let p = err_from_is_err_and c.from_residual.result c.from_residual.ensures.1 in
+    rw (p.1, p.2) (received_refuses (c.in_err-receive.was) c.receive.ensures)
 
 pub returns-in-Err-Lost : goal.returns-in-Err-Lost
 returns-in-Err-Lost c =
