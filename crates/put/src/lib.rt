@@ -9,12 +9,52 @@
 
 ghost use Rattle.std.specs.Prelude.{◌<◌, [], ◌∷◌};
 ghost use Rattle.put.specs.Digits.{digit, digits, field};
+ghost use Rattle.put.specs.Putting.{Put};
 
 // Lent bytes, and the place where the next byte goes.
 #[derive(Drop)]
 pub struct Out<'a> {
     pub bytes: &'a mut [u8],
     pub at: usize,
+}
+
+// One byte at a place of a list, and the place past it.
+fn byte_at(b: u8, out: &mut [u8], at: usize) -> usize
+    ensures { Put out.old at (b ∷ []) out.new result }
+{
+    if at < out.len() {
+        out[at] = b;
+        return at + 1;
+    }
+    at
+}
+
+// One digit.
+fn digit_at(d: usize, out: &mut [u8], at: usize) -> usize
+    requires { d < 10 }
+    ensures { Put out.old at (digit d ∷ []) out.new result }
+{
+    byte_at(48 + d as u8, out, at)
+}
+
+// The digits of a number below 10,000, as all numbers of a text are, each at the place that the one before leaves.
+// They are put without a call of itself, and the place is a number of its own meanwhile, not one behind a
+// reference, since a text has thousands of them.
+fn short_at(n: usize, out: &mut [u8], at: usize) -> usize
+    requires { n < 10000 }
+    ensures { Put out.old at (digits n) out.new result }
+{
+    let mut next = at;
+    if n >= 1000 {
+        next = digit_at(n / 1000 % 10, out, next);
+    }
+    if n >= 100 {
+        next = digit_at(n / 100 % 10, out, next);
+    }
+    if n >= 10 {
+        next = digit_at(n / 10 % 10, out, next);
+    }
+    digit_at(n % 10, out, next)
 }
 
 impl Out<'_> {
@@ -24,10 +64,7 @@ impl Out<'_> {
     pub fn byte(&mut self, b: u8)
         ensures { Puts self.old (b ∷ []) self.new }
     {
-        if self.at < self.bytes.len() {
-            self.bytes[self.at] = b;
-            self.at += 1;
-        }
+        self.at = byte_at(b, self.bytes, self.at);
     }
 
     // A word, byte by byte.
@@ -39,41 +76,15 @@ impl Out<'_> {
         }
     }
 
-    // One digit.
-    fn digit(&mut self, d: usize)
-        requires { d < 10 }
-        ensures { Puts self.old (digit d ∷ []) self.new }
-    {
-        self.byte(48 + d as u8);
-    }
-
-    // The digits of a number below 10,000, as all numbers of a text are, one behind the other. They are put
-    // without a call of itself, since a text has thousands of them.
-    fn short(&mut self, n: usize)
-        requires { n < 10000 }
-        ensures { Puts self.old (digits n) self.new }
-    {
-        if n >= 1000 {
-            self.digit(n / 1000 % 10);
-        }
-        if n >= 100 {
-            self.digit(n / 100 % 10);
-        }
-        if n >= 10 {
-            self.digit(n / 10 % 10);
-        }
-        self.digit(n % 10);
-    }
-
     // The digits of a number: those of its tenth, then its last one, unless there are few.
     pub fn number(&mut self, n: usize)
         ensures { Puts self.old (digits n) self.new }
     {
         if n < 10000 {
-            self.short(n);
+            self.at = short_at(n, self.bytes, self.at);
         } else {
             self.number(n / 10);
-            self.digit(n % 10);
+            self.at = digit_at(n % 10, self.bytes, self.at);
         }
     }
 
