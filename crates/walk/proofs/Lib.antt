@@ -3,7 +3,6 @@
 pub mod WalkRow
 pub mod WalkBegun
 pub mod WalkMarks
-pub mod WalkGreatest
 pub mod WalkFalls
 pub mod WalkSweep
 pub mod WalkReach
