@@ -1,12 +1,12 @@
 -- That the listed checks of the job are passed gives what the search for 8 starts from; what is refused before
 -- the last check is refused of the whole question.
 use Rattle.std.proofs.Common.{[], ◌∷◌, ℕ}
-use Rattle.std.proofs.lemmas.Result.{err_from_is_err_and}
 use Rattle.hall.specs.Job.{Numbers, job_in, carriers}
 use Rattle.hall.specs.Stages.{Question}
-use Rattle.hall.specs.Questions.{each_walk, lacking, checks_question, job_question}
-use Rattle.hall.proofs.Compose.{first_before, first_after, refused_first, none_append, sound_none, judged_after}
+use Rattle.hall.specs.Questions.{each_walk, lacking, checks_question, job_question, asked_question}
+use Rattle.hall.proofs.Compose.{first_before, refused_first, none_append, sound_none, judged_after}
 use Rattle.hall.proofs.Sound.{nodes_limit, ends_on}
+use Rattle.network.proofs.EachEntry.{returned, returned_behind}
 use Rattle.asks.proofs.check_asked.Goals as goal
 
 abbrev walks_of : Numbers → Question
@@ -18,9 +18,9 @@ number_of_it j c = lacking (carriers j) c ∷ []
 pub returns-in_err-check_job : goal.returns-in_err-check_job
 returns-in_err-check_job c =
     let j = job_in c.args.job.now in
-    let p = err_from_is_err_and c.from_residual.result c.from_residual.ensures.1 in
     let first = refused_first (checks_question j) c.in_err-check_job.was c.check_job.ensures in
-    rw (p.1, p.2) (first_before (number_of_it j c.args.carrier.0) (first_before (walks_of j) first))
+    returned (asked_question j c.args.carrier.0) _ _ c.from_residual.ensures.1
+    (first_before (number_of_it j c.args.carrier.0) (first_before (walks_of j) first))
 
 pub check_reach-requires : goal.check_reach-requires
 check_reach-requires c =
@@ -31,11 +31,9 @@ check_reach-requires c =
 pub returns-in_err-check_reach : goal.returns-in_err-check_reach
 returns-in_err-check_reach c =
     let j = job_in c.args.job.now in
-    let e = c.from_residual-in_err-check_reach in
-    let p = err_from_is_err_and e.result e.ensures.1 in
     let sound = sound_none (checks_question j) c.in_ok-check_job.was c.check_job.ensures in
-    let first = refused_first (walks_of j) c.in_err-check_reach.was c.check_reach.ensures in
-    rw (p.1, p.2) (first_before (number_of_it j c.args.carrier.0) (first_after sound first))
+    returned_behind (checks_question j) (walks_of j) (number_of_it j c.args.carrier.0) sound
+    c.in_err-check_reach.was c.check_reach.ensures _ c.from_residual-in_err-check_reach.ensures.1
 
 pub returns : goal.returns
 returns c =
