@@ -58,7 +58,11 @@ module _ {N : Network} {s g : ℕ} {row : List ℕ} (down : Downhill N s g row) 
     next_of v l h =
         let on : v < N.nodes = (begins_on_node h.walk).numbered in
         let back = distance small (dist_symmetric (lanes_symmetric N) h) in
-        record { numbered = omega (arith, down.size, on); lane = l; at_distance = distance_unique (down.distances v on) back }
+        record {
+          numbered = omega (arith, down.size, on);
+          lane = l;
+          at_distance = distance_unique (down.distances v on) back;
+        }
 
     pub next_distance : {v : ℕ} → Next N.lanes row u m v → Dist (floor N) v g m
     next_distance {v} n =

@@ -139,7 +139,9 @@ module _ (N : Network) (s g : ℕ) (list : List ℕ) where
     stands_on_open : AllOnWay row list → OnOpen
     stands_on_open stands k l =
         begins_on_node
-        (row_distance down (get_or list k 0) (omega (arith, down.size, (stands k l).numbered)) (stands k l).reached).walk
+        (row_distance down (get_or list k 0)
+        (omega (arith, down.size, (stands k l).numbered)) (stands k l).reached
+        ).walk
 
     -- and a node of a path has such a walk, the rest of the path
     path_stands : {d : ℕ} → PathOf (floor N) s g d list → AllOnWay row list

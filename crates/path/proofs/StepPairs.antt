@@ -57,8 +57,8 @@ step_numbers [] k h = absurd (let x : ⊥ = omega arith in x)
 step_numbers (x ∷ []) k h = absurd (let x : ⊥ = omega arith in x)
 step_numbers (x ∷ y ∷ l) zero h = refl
 step_numbers (x ∷ y ∷ l) (suc k) h =
-    step_numbers (y ∷ l) k (omega arith)
-    ∙ ap (λ (n : ℕ). (get_or (y ∷ l) k 0, get_or (x ∷ y ∷ l) n 0)) (let e : suc (k + 1) ≡ suc k + 1 = omega arith in e)
+    let next : suc (k + 1) ≡ suc k + 1 = omega arith in
+    step_numbers (y ∷ l) k (omega arith) ∙ ap (λ (n : ℕ). (get_or (y ∷ l) k 0, get_or (x ∷ y ∷ l) n 0)) next
 
 -- what is told of every step is told of each number with the next, and what fails of a step fails there
 module _ (P : ℕ → ℕ → Type 0) (l : List ℕ) where

@@ -6,7 +6,7 @@
 --     Next           node v is a neighbour of u, at the wanted distance
 --     Leads          one end of a lane leads from u to a node b at the wanted distance
 --     lower_of       the lower of the best so far, if there is one, and a node
---     Nearer         one end of a lane was looked at: where it leads, b is taken if it is lower than the best so far
+--     Nearer         one end of a lane was looked at: where it leads, the lower of b and the best so far is taken
 --     AtMost         there is a best, and it is at most the node
 --     LowestNext     the lowest-numbered neighbour at the wanted distance, or nothing if there is none
 --     Laid           the first places of the list are the house path, and the others are as they came

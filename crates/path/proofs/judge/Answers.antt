@@ -1,6 +1,6 @@
--- A refusal of the move is the list's. Otherwise the move has no fault, and the row is downhill. The list's length is held to the distance that the row has for
--- the start, its nodes to the row, where no closed node has a distance, and its steps to the lanes: all three hold
--- exactly if the list is a shortest path.
+-- A refusal of the move is the list's. Otherwise the move has no fault, and the row is downhill. The list's length
+-- is held to the distance that the row has for the start, its nodes to the row, where no closed node has a distance,
+-- and its steps to the lanes: all three hold exactly if the list is a shortest path.
 use Rattle.std.proofs.Common.{refl}
 use Rattle.std.proofs.lemmas.Result.{err_from_is_err_and}
 use Rattle.hall.proofs.Compose.{first_before}

@@ -1,7 +1,8 @@
 -- Before the goal a lane is left, so the next place is in the list and the next node is one lane nearer. What is
 -- laid at the goal is the house path, and the list past it is as it came.
 use Rattle.std.proofs.Common.{arith}
-use Rattle.path.proofs.Laying.{laying_first, laying_next, laying_done, laid_from, place_free, some_left, next_place, next_there}
+use Rattle.path.proofs.Laying.{laying_first, laying_next, laying_done, laid_from}
+use Rattle.path.proofs.Laying.{place_free, some_left, next_place, next_there}
 use Rattle.path.proofs.lay.Goals as goal
 
 pub loop-u-init : goal.loop-u-init

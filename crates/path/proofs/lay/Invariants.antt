@@ -10,7 +10,8 @@ abbrev pub invariant-loop-u : goal.invariant-loop-u
 invariant-loop-u l =
     (closed : List ℕ) →
     Downhill (network_of (length l.row) l.lanes closed) l.ends.start l.ends.goal l.row →
-    Laying (network_of (length l.row) l.lanes closed) l.ends.start l.ends.goal l.initial.left l.initial.path l.u l.left l.at l.path
+    Laying (network_of (length l.row) l.lanes closed) l.ends.start l.ends.goal
+    l.initial.left l.initial.path l.u l.left l.at l.path
 
 abbrev pub decreases-loop-u : goal.decreases-loop-u
 decreases-loop-u l = l.left

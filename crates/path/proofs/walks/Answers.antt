@@ -12,14 +12,17 @@ use Rattle.path.proofs.walks.Goals.{then-eq, else-eq}
 
 pub returns-then-eq-2 : goal.returns-then-eq-2
 returns-then-eq-2 c =
-    let all = cases_from_all _ _ c.all.result (λ p. Lane c.args.lanes.now p.0 p.1) (λ p. ¬ Lane c.args.lanes.now p.0 p.1)
-    c.all.ensures.ran (yields_steps c.args.list.now c.windows.ensures.size c.windows.ensures.rest)
+    let lanes = c.args.lanes.now in
+    let list = c.args.list.now in
+    let all =
+    cases_from_all _ _ c.all.result (λ p. Lane lanes p.0 p.1) (λ p. ¬ Lane lanes p.0 p.1)
+    c.all.ensures.ran (yields_steps list c.windows.ensures.size c.windows.ensures.rest)
     (λ x q k. search (rules, tests)) (λ x q k. search (rules, tests)) in
-    let each = told (Lane c.args.lanes.now) c.args.list.now c.all.result all in
+    let each = told (Lane lanes) list c.all.result all in
     elim c.if-eq.branch [
       | then-eq w ↦
-          let first : slice_get c.args.list.now 0 ≡ Some c.args.ends.start = search (rules, tests) in
-          let last : slice_get c.args.list.now (length c.args.list.now - 1) ≡ Some c.args.ends.goal = search (rules, tests) in
-          walks_told c.args.lanes.now c.args.list.now first last c.all.result each
+          let first : slice_get list 0 ≡ Some c.args.ends.start = search (rules, tests) in
+          let last : slice_get list (length list - 1) ≡ Some c.args.ends.goal = search (rules, tests) in
+          walks_told lanes list first last c.all.result each
       | else-eq w ↦ absurd (true_not_false (sym (c.if-eq-2.true) ∙ w.value-is ∙ w.if-eq.false))
     ]

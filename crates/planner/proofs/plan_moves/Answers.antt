@@ -1,5 +1,6 @@
--- A refusal of receiving is one of planning. A received job is measured: 8 refuses it, or it is ready, so that it has its start ticks and is planned
--- (`ready_planned`). What is received is served, so measuring never ends as unserved, and there are start ticks.
+-- A refusal of receiving is one of planning. A received job is measured: 8 refuses it, or it is ready, so that it has
+-- its start ticks and is planned (`ready_planned`). What is received is served, so measuring never ends as unserved,
+-- and there are start ticks.
 use Rattle.std.proofs.Common.{◌∙◌, ap, Err}
 use Rattle.std.proofs.lemmas.Result.{err_from_is_err_and}
 use Rattle.hall.specs.Job.{Numbers, job_in}
@@ -51,7 +52,7 @@ pub unwrap-cost-requires : goal.unwrap-cost-requires
 unwrap-cost-requires c =
     let m = (goal.at.unwrap-cost-requires c).In_ok-receive in
     let ready = says_all {N = (job m).network} c.in-Ok.is c.measure.ensures in
-    served_timed c.measure.new.table c.args.job.now.order.now c.args.job.now.dwell (mid m).ticks c.start_ticks.new.ticks
+    served_timed c.measure.new.table (job m).order (job m).dwell (mid m).ticks c.start_ticks.new.ticks
     c.start_ticks.result (ready_served (job m) (came m) (mid m) (received m) ready) c.start_ticks.ensures
 
 pub returns : goal.returns
