@@ -2,7 +2,7 @@
 -- laid at the goal is the house path, and the list past it is as it came.
 use Rattle.std.proofs.Common.{arith}
 use Rattle.path.proofs.Laying.{laying_first, laying_next, laying_done, laid_from}
-use Rattle.path.proofs.Laying.{place_free, some_left, next_place, next_there}
+use Rattle.path.proofs.Laying.{some_left, next_place, next_there}
 use Rattle.path.proofs.lay.Goals as goal
 
 pub loop-u-init : goal.loop-u-init
@@ -10,12 +10,6 @@ loop-u-init c = λ closed down. laying_first c.args.path.now down c.requires.2
 
 pub overflow_sub-left : goal.overflow_sub-left
 overflow_sub-left c = some_left (c.loop-u.invariant c.requires.0 c.requires.1) c.loop-u-test.true
-
-pub overflow_add-at : goal.overflow_add-at
-overflow_add-at c = omega (arith, place_free (c.loop-u.invariant c.requires.0 c.requires.1))
-
-pub offset_bounds-path-at : goal.offset_bounds-path-at
-offset_bounds-path-at c = omega (arith, place_free (c.loop-u.invariant c.requires.0 c.requires.1))
 
 pub bounds-path-at : goal.bounds-path-at
 bounds-path-at c = next_place (c.loop-u.invariant c.requires.0 c.requires.1) c.loop-u-test.true
@@ -35,9 +29,6 @@ loop-u-preserved c =
     let left = some_left (c.loop-u.invariant c.requires.0 c.requires.1) c.loop-u-test.true in
     λ closed down.
     laying_next (c.loop-u.invariant closed down) down (omega arith) (rw c.unwrap-u.ensures at c.next_node.ensures)
-
-pub overflow_add-result : goal.overflow_add-result
-overflow_add-result c = omega (arith, place_free (c.loop-u.invariant c.requires.0 c.requires.1))
 
 pub returns : goal.returns
 returns c =
