@@ -38,11 +38,11 @@ use Rattle.hall.proofs.Compose.{first_here, none_more, none_at_all}
 use Rattle.hall.proofs.Places.{each_first, each_none, none_each}
 use Rattle.hall.proofs.Sound.{MovesSound, moves_sound}
 use Rattle.hall.proofs.Left.{zeroed_same, zeroed_length, row_changed}
-use Rattle.tables.specs.declared.Unmeasured.{Unmeasured as Why}
+use Rattle.tables.specs.declared.Unmeasured.{Unmeasured}
 use Rattle.tables.specs.declared.Unmeasured.TheVariants.{Lost, Unserved}
 use Rattle.tables.specs.Filling.{TableServed, TableFilled, TableUntouched, Filling}
 use Rattle.tables.specs.Filling.{FirstLost, NoneLost, looked, unserved, said_reach, Reaching}
-use Rattle.tables.specs.Measuring.{MeasureServed, Measured, LostLeft, Unmeasured, said_tabled, Measuring}
+use Rattle.tables.specs.Measuring.{MeasureServed, Measured, LostLeft, BothUntouched, said_tabled, Measuring}
 use Rattle.tables.specs.Measuring.{OwnCopied}
 use Rattle.tables.proofs.Blocks.{end_below}
 
@@ -130,7 +130,7 @@ module _ {N : Network} {moves table table' : List ℕ} (f : TableFilled N moves 
 
 -- ---- what the answer of measuring tells
 
-module _ {N : Network} {moves table table' distances distances' : List ℕ} {r : Result Unit Why} where
+module _ {N : Network} {moves table table' distances distances' : List ℕ} {r : Result Unit Unmeasured} where
   pub says_all : r ≡ Ok tt → Measuring N moves table table' distances distances' (said_tabled r) →
       Measured N moves table table' distances distances'
   says_all e a = rw e at a
@@ -140,10 +140,10 @@ module _ {N : Network} {moves table table' distances distances' : List ℕ} {r :
   says_lost e a = rw e at a
 
   says_unserved : r ≡ Err Unserved → Measuring N moves table table' distances distances' (said_tabled r) →
-      Unmeasured N moves table table' distances distances'
+      BothUntouched N moves table table' distances distances'
   says_unserved e a = rw e at a
 
 pub served_measured : {N : Network} {moves table distances : List ℕ} → MeasureServed N moves table distances →
-    (table' distances' : List ℕ) {r : Result Unit Why} → r ≡ Err Unserved →
+    (table' distances' : List ℕ) {r : Result Unit Unmeasured} → r ≡ Err Unserved →
     Measuring N moves table table' distances distances' (said_tabled r) → ⊥
 served_measured served table' distances' e a = (says_unserved e a).unserved served

@@ -25,7 +25,7 @@ use Rattle.hall.proofs.Walks.{distance_unique}
 use Rattle.hall.proofs.Lowest.{dec_and}
 use Rattle.hall.proofs.Stages.{first_unique, none_excludes}
 use Rattle.hall.proofs.Left.{row_unique}
-use Rattle.tables.specs.declared.Unmeasured.{Unmeasured as Why}
+use Rattle.tables.specs.declared.Unmeasured.{Unmeasured}
 use Rattle.tables.specs.declared.Unmeasured.TheVariants.{Lost, Unserved}
 use Rattle.tables.specs.Filling.{Used, TableFilled, Filling, FirstLost, NoneLost, looked, unserved}
 use Rattle.tables.specs.Filling.{said_reach, Reaching}
@@ -100,7 +100,7 @@ module _ (N : Network) (moves table distances t u d e : List ℕ) where
       row_unique a.distances_left b.distances_left
       (λ i h. a.own_distances i h ∙ ap (λ (l : List ℕ). own (tables_in l) i) same ∙ sym (b.own_distances i h))
 
-  pub measuring_unique : (r r' : Result Unit Why) →
+  pub measuring_unique : (r r' : Result Unit Unmeasured) →
       Measuring N moves table t distances d (said_tabled r) →
       Measuring N moves table u distances e (said_tabled r') →
       (r ≡ r') × (t ≡ u) × (d ≡ e)

@@ -8,7 +8,7 @@
 --                     and the list of distances the carriers' own
 --     LostLeft        the refusal is the first of 8: this carrier has no walk, and each with a lower number
 --                     has one. The least lengths of the table and of the distances are zero
---     Unmeasured      what is not served leaves both lists as they came
+--     BothUntouched   what is not served leaves both lists as they came
 --     Measuring       the promise of measuring: one of the three, by what is said
 --     OwnCopied       what a step promises: the own distances of k carriers stand in the list, and nothing
 --                     else changed. No public promise cites it
@@ -25,11 +25,11 @@ use Rattle.hall.specs.Questions.{each_walk}
 use Rattle.hall.specs.Left.{zeroed, RowLeft}
 use Rattle.hall.specs.Ticks.{own}
 use Rattle.hall.specs.Plan.{tables_in}
-use Rattle.tables.specs.declared.Unmeasured.{Unmeasured as Why}
+use Rattle.tables.specs.declared.Unmeasured.{Unmeasured}
 use Rattle.tables.specs.declared.Unmeasured.TheVariants.{Lost, Unserved}
 use Rattle.tables.specs.Filling.{TableServed, TableFilled}
 
-abbrev pub said_tabled : Result Unit Why → Option (Said Unit)
+abbrev pub said_tabled : Result Unit Unmeasured → Option (Said Unit)
 said_tabled (Ok u) = some (accepted tt)
 said_tabled (Err (Lost c)) = some (refused (number_of Unreachable) c.0)
 said_tabled (Err Unserved) = none
@@ -51,7 +51,7 @@ pub record LostLeft (N : Network) (moves table table' distances distances' : Lis
   pub table_left : table' ≡ zeroed table_length table
   pub distances_left : distances' ≡ zeroed carrier_limit distances
 
-pub record Unmeasured (N : Network) (moves table table' distances distances' : List ℕ) : Type 0 where
+pub record BothUntouched (N : Network) (moves table table' distances distances' : List ℕ) : Type 0 where
   pub unserved : ¬ MeasureServed N moves table distances
   pub table_kept : table' ≡ table
   pub distances_kept : distances' ≡ distances
@@ -60,7 +60,7 @@ abbrev pub Measuring : (N : Network) (moves table table' distances distances' : 
     Option (Said Unit) → Type 0
 Measuring N moves t t' d d' (some (accepted u)) = Measured N moves t t' d d'
 Measuring N moves t t' d d' (some (refused n p)) = LostLeft N moves t t' d d' n p
-Measuring N moves t t' d d' none = Unmeasured N moves t t' d d'
+Measuring N moves t t' d d' none = BothUntouched N moves t t' d d'
 
 -- ---- a step
 
