@@ -18,16 +18,20 @@ pub fn answer<W: Write, T, F: FnOnce(&mut W, T) -> io::Result<()>>(
     }
 }
 
+// The counts of a job that was read, and its dwell.
+fn counts<W: Write>(out: &mut W, job: Job) -> io::Result<()> {
+    let Job {
+        nodes,
+        lanes,
+        closed,
+        carriers,
+        dwell,
+    } = job;
+    writeln!(out, "READ {nodes} {lanes} {closed} {carriers} {dwell}")
+}
+
 pub fn read<W: Write>(out: &mut W, read: Result<Job, Refusal>) -> io::Result<()> {
-    answer(
-        out,
-        read,
-        |out, job| writeln!(
-            out,
-            "READ {} {} {} {} {}",
-            job.nodes, job.lanes, job.closed, job.carriers, job.dwell
-        ),
-    )
+    answer(out, read, |out, job| counts(out, job))
 }
 
 pub fn planned<W: Write>(out: &mut W, planned: Result<u32, Refusal>) -> io::Result<()> {
