@@ -6,7 +6,6 @@
 --     end_below          where every start and goal is an open node, every number of the moves is a node
 --     node_filled        a walk and its copies in three blocks make the rows of a node
 --     FilledTo           where the loop over the starts and goals stands before place n of the moves
---     filled_none        before the first
 --     filled_more        a node more
 --     filled_same        a node that came before has its rows already
 --     filled_all         after the last
@@ -16,7 +15,6 @@ use mathlib.Core.Path.{◌≡◌, refl, sym, ◌∙◌, ap, subst}
 use mathlib.Core.Logic.{◌≢◌, inl, inr}
 use mathlib.Core.List.{List}
 use Prim.Native.Nat.{ℕ, zero, suc, ◌+◌, ◌*◌, ◌/◌, ◌%◌, ◌≤◌, ◌<◌}
-use native.Mathlib.Nat.{not-suc-le-zero}
 use native.Mathlib.Decide.{ℕ_discrete, dec_lt}
 use native.Mathlib.Omega.{arith}
 use lib.ListN.{length, get_or}
@@ -83,14 +81,6 @@ pub record FilledTo (N : Network) (moves table : List ℕ) (n : ℕ) (table' : L
   pub beyond : (x : ℕ) → table_length ≤ x → get_or table' x 0 ≡ get_or table x 0
 
 module _ (N : Network) (moves table : List ℕ) where
-  pub filled_none : FilledTo N moves table 0 table
-  filled_none = record {
-    size = refl;
-    held = λ block i j b h l a. absurd (not-suc-le-zero a.before);
-    unused = λ x h n. refl;
-    beyond = λ x h. refl;
-  }
-
   module _ (n : ℕ) {table' : List ℕ} (f : FilledTo N moves table n table') where
     -- a node that came before has its rows
     pub filled_same : CameBefore moves n (get_or moves n 0) → FilledTo N moves table (n + 1) table'

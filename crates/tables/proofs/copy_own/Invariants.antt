@@ -1,5 +1,5 @@
 -- The invariant of `copy_own`: the own distances of the first i carriers are copied, and nothing else
--- changed. The measure is how many carriers are left.
+-- changed.
 use Rattle.tables.specs.Measuring.{OwnCopied}
 use Rattle.tables.proofs.copy_own.Given as goal
 

@@ -1,5 +1,4 @@
--- The invariant of `copy_row`: the row is copied for the moves before j, `RowCopied` so far. The measure
--- is how many moves are left.
+-- The invariant of `copy_row`: the row is copied for the moves before j, `RowCopied` so far.
 use Rattle.tables.specs.Blocks.{RowCopied}
 use Rattle.tables.proofs.copy_row.Given as goal
 

@@ -1,5 +1,5 @@
 -- The invariant of `copy_rows`: the row is copied for the carriers before i whose rows begin at the node,
--- `RowsCopied` so far. The measure is how many carriers are left.
+-- `RowsCopied` so far.
 use Rattle.tables.specs.Blocks.{RowsCopied}
 use Rattle.tables.proofs.copy_rows.Given as goal
 

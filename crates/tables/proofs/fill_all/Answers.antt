@@ -7,12 +7,9 @@ use Rattle.hall.specs.Floor.{network_in}
 use Rattle.tables.specs.Filling.{TableServed}
 use Rattle.hall.proofs.Left.{zeroed_below, zeroed_length}
 use Rattle.hall.proofs.Answers.{affirmed}
-use Rattle.tables.proofs.Blocks.{filled_none, filled_more, filled_same, filled_all, over_zeroed}
+use Rattle.tables.proofs.Blocks.{filled_more, filled_same, filled_all, over_zeroed}
 use Rattle.tables.proofs.fill_all.Goals as goal
 use Rattle.tables.proofs.fill_all.Goals.{then-not-came_before, else-not-came_before}
-
-pub loop-x-init : goal.loop-x-init
-loop-x-init c = filled_none _ _ _
 
 pub loop-x-preserved : goal.loop-x-preserved
 loop-x-preserved c =

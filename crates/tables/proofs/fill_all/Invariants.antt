@@ -1,5 +1,5 @@
 -- The invariant of `fill_all`: the rows that begin at one of the first x starts and goals are filled, and
--- a place in no row is as it came, `FilledTo`. The measure is how many starts and goals are left.
+-- a place in no row is as it came, `FilledTo`.
 use Rattle.hall.specs.Floor.{network_in}
 use Rattle.tables.proofs.Blocks.{FilledTo}
 use Rattle.tables.proofs.fill_all.Given as goal

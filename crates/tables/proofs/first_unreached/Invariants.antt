@@ -1,5 +1,4 @@
--- The invariant of `first_unreached`: each carrier before i has a distance of its own. The measure is how
--- many carriers are left.
+-- The invariant of `first_unreached`: each carrier before i has a distance of its own.
 use Rattle.std.proofs.Common.{ℕ, ◌<◌, ◌≢◌}
 use Rattle.hall.specs.Limits.{no_walk_mark}
 use Rattle.hall.specs.Ticks.{own}

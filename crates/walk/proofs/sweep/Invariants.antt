@@ -1,4 +1,4 @@
--- The invariant of `sweep` is `Sweeping`, and the measure is how many lanes are left.
+-- The invariant of `sweep` is `Sweeping`.
 use Rattle.std.proofs.Common.{length}
 use Rattle.walk.proofs.WalkSweep.{Sweeping}
 use Rattle.walk.proofs.sweep.Given as goal
