@@ -6,9 +6,7 @@
 --     lanes_left_same     two lanes have different numbers of lanes left
 --     lanes_left_at       the lane that a sweep comes to with so many left
 --     Sweeping            a sweep that has `rest` lanes left
---     sweeping_first      before its first lane
 --     sweeping_look       a look at one lane
---     sweeping_done       after its last lane
 use mathlib.Core.Path.{◌≡◌}
 use mathlib.Core.Logic.{◌⊎◌, inl, inr}
 use mathlib.Core.Bool.{Bool, true, false, not, cond}
@@ -19,8 +17,8 @@ use native.Mathlib.Omega.{arith}
 use lib.ListN.{length, get_or}
 use Rattle.hall.specs.Limits.{no_walk_mark}
 use Rattle.hall.specs.Floor.{Lane, lanes_in, lower, higher}
-use Rattle.walk.specs.Sweep.{Near, NearAt, Looked, kept, second_fell, first_fell, lanes_left, OnlyFell, Sweepable, Fell, LanesSwept}
-use Rattle.walk.proofs.WalkFalls.{lowered, lowered_new, lowered_fallen, lowered_calm, only_fell_none, only_fell_then, only_fell_lowered, lane_up, lane_down}
+use Rattle.walk.specs.Sweep.{Near, NearAt, Looked, kept, second_fell, first_fell, lanes_left, OnlyFell, Fell}
+use Rattle.walk.proofs.WalkFalls.{lowered, lowered_new, lowered_fallen, lowered_calm, only_fell_then, only_fell_lowered, lane_up, lane_down}
 
 -- ---- how many lanes are left
 
@@ -55,27 +53,6 @@ pub record Sweeping (nodes : ℕ) (lanes : List ℕ) (back : Bool) (row now : Li
   -- the lanes left and those that the next sweep has are different ones
   pub few : rest + next ≤ lanes_in lanes
   pub fell : 0 < next → Fell row now
-
-pub sweeping_first : {nodes : ℕ} {lanes : List ℕ} {back : Bool} {todo : ℕ} {row : List ℕ} → Sweepable nodes lanes back todo row → Sweeping nodes lanes back row row todo 0
-sweeping_first s = record {
-  only = only_fell_none;
-  near = s.calm;
-  calm = λ k h i j. s.calm k h i;
-  few = omega (arith, s.few);
-  fell = λ h. absurd (let z : ⊥ = omega arith in z);
-}
-
-pub sweeping_done : {nodes : ℕ} {lanes : List ℕ} {back : Bool} {row now : List ℕ} {next : ℕ} → nodes ≤ length row → Sweeping nodes lanes back row now 0 next → LanesSwept nodes lanes back row now next
-sweeping_done {nodes} {lanes} {back} {row} {now} {next} wide s = record {
-  only = s.only;
-  near = λ k h. s.near k h (lanes_left_some (lanes_in lanes) back k h);
-  sweepable = record {
-    wide = omega (arith, s.only.size);
-    few = omega (arith, s.few);
-    calm = λ k h i. s.calm k h (lanes_left_some (lanes_in lanes) back k h) (omega (arith, lanes_left_sum (lanes_in lanes) back k h));
-  };
-  fell = s.fell;
-}
 
 -- ---- a look at one lane
 
