@@ -23,10 +23,7 @@ fn lane_fault(nodes: usize, lanes: &[u16], k: usize) -> bool
     let at = 2 * k;
     let low = number_at(lanes, at);
     let high = number_at(lanes, at + 1);
-    if high <= low {
-        return true;
-    }
-    if high as usize >= nodes {
+    if high <= low || high as usize >= nodes {
         return true;
     }
     if k == 0 {
