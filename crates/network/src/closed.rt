@@ -9,7 +9,7 @@ ghost use Rattle.hall.specs.Said.{Judged};
 ghost use Rattle.hall.specs.Refusals.{ClosedFault};
 ghost use Rattle.hall.specs.Questions.{each_closed};
 
-use crate::checks::{number_at, refused};
+use crate::checks::refused;
 use hall::{Fault, Refusal};
 
 // Whether a node stands in a list of closed nodes, which need not rise. It goes through the whole list, in
@@ -33,15 +33,8 @@ fn closed_fault(nodes: usize, closed: &[u16], k: usize) -> bool
     if k >= closed.len() {
         return false;
     }
-    let node = number_at(closed, k);
-    if node as usize >= nodes {
-        return true;
-    }
-    if k == 0 {
-        return false;
-    }
-    let before = number_at(closed, k - 1);
-    before >= node
+    let node = closed[k];
+    node as usize >= nodes || k > 0 && closed[k - 1] >= node
 }
 
 // 12, of the entry k: it is a node, and exceeds the one before.
