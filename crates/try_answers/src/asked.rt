@@ -2,7 +2,7 @@
 // numbers say how long each lent table is, and which carrier or move is asked about; its lists are the ones
 // to judge, or to choose from.
 use asks::{house_for, judge_for};
-use hall::{Carrier, Ends, JobNumbers, Network, Refusal};
+use hall::{Carrier, Ends, JobNumbers, Network};
 use path::{choose, house, judge};
 use planner::plan_moves;
 use std::io;
@@ -10,7 +10,7 @@ use std::io::Write;
 use try_batch::kind::Kind;
 use try_batch::marked::{BYTE_MARK, MARK, PLACES, TEXT_ROOM, lend, print_runs, print_written};
 use try_batch::payload::{LIST_ROOM, behind_list, filled, loaded_list, rest, short_at};
-use try_batch::print;
+use try_batch::{often, print};
 use writer::write_numbers;
 
 pub(crate) fn ask<W: Write>(out: &mut W, kind: Kind, s: &[u8], job: &JobNumbers) -> io::Result<()> {
@@ -63,16 +63,9 @@ fn print_judged_for<W: Write>(out: &mut W, s: &[u8], job: &JobNumbers) -> io::Re
 // of writing from that.
 fn write<W: Write>(out: &mut W, s: &[u8], job: &JobNumbers) -> io::Result<()> {
     let mut bytes: [u8; TEXT_ROOM] = filled(BYTE_MARK);
-    let answer = write_often(short_at(s, 2), job, lend(&mut bytes, s, 0));
+    let room = lend(&mut bytes, s, 0);
+    let answer = often(short_at(s, 2), || write_numbers(job, room));
     print_written(out, answer, &bytes)
-}
-
-// Each writing leaves the same in the output, and the last is answered.
-fn write_often(further: u16, job: &JobNumbers, out: &mut [u8]) -> Result<usize, Refusal> {
-    for _ in 0..further {
-        let _ = write_numbers(job, out);
-    }
-    write_numbers(job, out)
 }
 
 // ---- questions about a move

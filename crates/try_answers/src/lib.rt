@@ -16,7 +16,11 @@ use try_batch::payload::{
     JOB_ROOM, behind_list, behind_network, body, filled, loaded_list, loaded_network, long_at,
 };
 
-pub fn answer<W: Write>(out: &mut W, kind: Kind, s: &[u8]) -> io::Result<()> {
+// The answer to a case, by the letter of its kind.
+pub fn answer<W: Write>(out: &mut W, letter: u8, s: &[u8]) -> io::Result<()> {
+    let Ok(kind) = Kind::try_from(letter) else {
+        return writeln!(out, "no such kind");
+    };
     let from = body(s);
     match kind {
         Kind::PlanText => text::plan(out, from),
@@ -28,7 +32,12 @@ pub fn answer<W: Write>(out: &mut W, kind: Kind, s: &[u8]) -> io::Result<()> {
         | Kind::JudgeText
         | Kind::ChooseText
         | Kind::WriteText => text::ask_of(out, kind, s, from),
-        _ => ask_numbers(out, kind, s, from),
+        Kind::PlanNumbers
+        | Kind::HouseNumbers
+        | Kind::HouseJudgeNumbers
+        | Kind::ChooseNumbers
+        | Kind::WriteNumbers => ask_numbers(out, kind, s, from),
+        _ => writeln!(out, "no such kind"),
     }
 }
 

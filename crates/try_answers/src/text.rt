@@ -1,14 +1,14 @@
 // The kinds with a text: what the program answers to it, what reading it leaves, and the questions about the
 // job that it has.
 use super::asked::ask;
-use hall::{Job, JobNumbers, Network, Refusal};
+use hall::{Job, JobNumbers, Network};
 use reader::read_numbers;
 use std::io;
 use std::io::Write;
 use try_batch::kind::Kind;
 use try_batch::marked::{BYTE_MARK, MARK, PLACES, lend, print_runs};
 use try_batch::payload::{filled, front, short_at};
-use try_batch::print;
+use try_batch::{often, print};
 
 // The answer to a text, as it is printed.
 pub(crate) fn plan<W: Write>(out: &mut W, text: &[u8]) -> io::Result<()> {
@@ -51,13 +51,9 @@ pub(crate) fn ask_of<W: Write>(out: &mut W, kind: Kind, s: &[u8], text: &[u8]) -
     let mut closed = [0u16; Job::NODES];
     let mut moves = [0u16; Job::MOVE_NUMBERS];
     let mut order = [0u16; Job::CARRIERS];
-    let read = read_often(
+    let read = often(
         short_at(s, 6),
-        text,
-        &mut lanes,
-        &mut closed,
-        &mut moves,
-        &mut order,
+        || read_numbers(text, &mut lanes, &mut closed, &mut moves, &mut order),
     );
     print::answer(
         out,
@@ -78,19 +74,4 @@ pub(crate) fn ask_of<W: Write>(out: &mut W, kind: Kind, s: &[u8], text: &[u8]) -
             },
         ),
     )
-}
-
-// Each reading leaves the same in the tables, and the last is answered.
-fn read_often(
-    further: u16,
-    text: &[u8],
-    lanes: &mut [u16],
-    closed: &mut [u16],
-    moves: &mut [u16],
-    order: &mut [u16],
-) -> Result<Job, Refusal> {
-    for _ in 0..further {
-        let _ = read_numbers(text, lanes, closed, moves, order);
-    }
-    read_numbers(text, lanes, closed, moves, order)
 }

@@ -30,6 +30,17 @@ pub struct Case {
     pub count: usize,
 }
 
+// Asks so many times more than once, and has the last answer: the benchmark gets the time of a question from
+// that. Each time the same is asked, and the same is left.
+pub fn often<R: Drop, F: FnMut() -> R>(further: u16, mut ask: F) -> R
+    requires { F.IsAlwaysCallable ask }
+{
+    for _ in 0..further {
+        let _ = ask();
+    }
+    ask()
+}
+
 // Reads the next case, as much of its payload as the space and the input have, and prints its number; there is
 // none at the end of the batch. The kind and the bytes come from the input, of which no contract says anything.
 // So all that can be promised is that the payload fits into the space, which keeps its length, and that the

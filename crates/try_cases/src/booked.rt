@@ -11,7 +11,7 @@ use std::io::Write;
 use try_batch::kind::Kind;
 use try_batch::marked::print_runs;
 use try_batch::payload::{JOB_ROOM, behind_job, filled, loaded_network, long_at, rest, short_at};
-use try_batch::print;
+use try_batch::{often, print};
 use try_book::{admit_lent, may_start_lent};
 
 // What a payload has of a slot, of a book, and of a call or a question.
@@ -91,10 +91,7 @@ pub(crate) fn call<W: Write>(
     ends: Ends,
     book: Book,
 ) -> io::Result<Book> {
-    for _ in 0..further {
-        admit_lent(book, clock, network, ends);
-    }
-    let Stepped { answer, book } = admit_lent(book, clock, network, ends);
+    let Stepped { answer, book } = often(further, || admit_lent(book, clock, network, ends));
     print::answer(
         out,
         answer,
@@ -112,10 +109,7 @@ fn ask<W: Write>(
     ends: Ends,
     book: Book,
 ) -> io::Result<()> {
-    for _ in 0..further {
-        let _ = may_start_lent(book, t, network, ends);
-    }
-    let answer = may_start_lent(book, t, network, ends);
+    let answer = often(further, || may_start_lent(book, t, network, ends));
     print::answer(out, answer, |out, forbids| match forbids {
         None => writeln!(out, "MAY"),
         Some(slot) => writeln!(out, "FORBIDS {slot}"),

@@ -15,16 +15,17 @@ use try_batch::payload::{body, filled, front};
 use try_batch::{PAYLOAD_ROOM, next_case};
 
 fn answer_case<W: Write>(out: &mut W, letter: u8, s: &[u8]) -> io::Result<()> {
-    let Ok(kind) = Kind::try_from(letter) else {
-        return writeln!(out, "no such kind");
-    };
-    match kind {
-        Kind::Admit | Kind::MayStart => booked::admit(out, kind, s, body(s)),
-        Kind::Trolleys => trolleys::admit_all(out, s, body(s)),
-        Kind::ReadRecords => on_records::read(out, s, body(s)),
-        Kind::PlanRecords | Kind::HouseRecords | Kind::JudgeRecords | Kind::WriteRecords =>
-            on_records::ask(out, kind, s, body(s)),
-        _ => answer(out, kind, s),
+    match Kind::try_from(letter) {
+        Ok(kind @ (Kind::Admit | Kind::MayStart)) => booked::admit(out, kind, s, body(s)),
+        Ok(Kind::Trolleys) => trolleys::admit_all(out, s, body(s)),
+        Ok(Kind::ReadRecords) => on_records::read(out, s, body(s)),
+        Ok(
+            kind @ (Kind::PlanRecords
+            | Kind::HouseRecords
+            | Kind::JudgeRecords
+            | Kind::WriteRecords),
+        ) => on_records::ask(out, kind, s, body(s)),
+        _ => answer(out, letter, s),
     }
 }
 
