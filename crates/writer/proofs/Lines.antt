@@ -4,19 +4,22 @@
 --     count_parts                a section's line by its parts
 --     PutUpTo                    what is put is all but the rest; up_to_none, up_to_more and up_to_all are the
 --                                steps of a loop that puts one part after the other
---     first_pair, no_pair        the lines of pairs by the first pair; an odd last number is left out
---     no_singles, next_single    the same of single numbers
+--     next_number, last_number   a line by its numbers, one behind the other
+--     first_row, no_row          lines of one size by the first; what is too short for one is left out
+--     rows_of_two, rows_of_one   rows of two numbers are pairs, and rows of one are singles
 --     closed_unwritten, closed_written    the section of the closed nodes: nothing, or its line and entries
 --     dwell_unwritten, dwell_written      the line of the dwell: nothing, or the line
 --     job_parts                  the text of a job by the lines of its sections
 use mathlib.Core.Path.{◌≡◌, refl, sym, ◌∙◌, ap}
 use mathlib.Core.Logic.{◌≢◌}
 use mathlib.Core.List.{List, [], ◌∷◌, ◌++◌, append_assoc, append-nil}
-use Prim.Native.Nat.{ℕ, zero, suc, ◌+◌, ◌<◌}
+use Prim.Native.Nat.{ℕ, zero, suc, ◌+◌, ◌/◌, ◌<◌}
 use native.Mathlib.Numerals.{add-one}
 use native.Mathlib.Omega.{arith}
-use lib.ListN.{length, take, get_or}
-use lib.Seq.{take-length}
+use lib.ListN.{length, drop, get_or}
+use Rattle.std.proofs.Math.Nat.{add-div_left, div-eq_of_lt}
+use Rattle.std.proofs.Math.Seq.{take-append_seam, drop-append_seam}
+use Rattle.std.proofs.lemmas.List.{length-append}
 use Rattle.hall.specs.Floor.{lanes_in}
 use Rattle.hall.specs.Job.{Numbers, carriers}
 use Rattle.put.specs.declared.Out.{Out}
@@ -27,8 +30,8 @@ use Rattle.form.specs.Lines.{further, entry_line, count_line, entry_lines}
 use Rattle.form.specs.Words.{NODES, LANES, CLOSED, CARRIERS, ORDER, DWELL}
 use Rattle.form.specs.Contents.{written}
 use Rattle.form.specs.Jobs.{pairs, singles, closed_contents, dwell_contents, text_of}
-use Rattle.form.proofs.Steps.{entries_append, written_append}
-use Rattle.form.proofs.Rows.{singles_next}
+use Rattle.form.proofs.Steps.{written_append}
+use Rattle.writer.specs.Rows.{rows, rows_of}
 
 pub count_parts : (word : List ℕ) (count : ℕ) → count_line word count ≡ word ++ ((32 ∷ []) ++ field count 10)
 unfolding count_line further field
@@ -56,47 +59,61 @@ up_to_more {part = part} {rest' = rest'} u more e = record {
 pub up_to_all : {o p : Out} {whole rest : List ℕ} → PutUpTo o whole rest p → rest ≡ [] → Puts o whole p
 up_to_all u e = rw (sym u.parts ∙ ap (λ (l : List ℕ). u.front ++ l) e ∙ append-nil u.front) u.puts
 
--- ---- lines of two numbers
+-- ---- a line, number by number
 
-pair_line : (a b : ℕ) → entry_lines ((a ∷ b ∷ []) ∷ []) ≡ field a 32 ++ field b 10
-unfolding entry_lines entry_line further field
-pair_line a b =
-    append-nil (digits a ++ (32 ∷ (digits b ++ (10 ∷ []))))
-    ∙ sym (append_assoc (digits a) (32 ∷ []) (digits b ++ (10 ∷ [])))
+pub next_number : (l : List ℕ) (i : ℕ) (behind : List ℕ) → i + 1 < length l →
+    entry_line (drop i l) ++ behind ≡ field (get_or l i 0) 32 ++ (entry_line (drop (i + 1) l) ++ behind)
+unfolding entry_line further field
+next_number [] i behind h = absurd (let x : ⊥ = omega arith in x)
+next_number (a ∷ []) zero behind h = absurd (let x : ⊥ = omega arith in x)
+next_number (a ∷ b ∷ l) zero behind h =
+    append_assoc (digits a) (further (b ∷ l)) behind
+    ∙ sym (append_assoc (digits a) (32 ∷ []) (entry_line (b ∷ l) ++ behind))
+next_number (a ∷ l) (suc i) behind h =
+    let more = next_number l i behind (omega arith) in rw add-one (rw add-one at more)
 
-pub first_pair : (l pair rest : List ℕ) → l ≡ pair ++ rest → length pair ≡ 2 →
-    entry_lines (pairs l) ≡ (field (get_or pair 0 0) 32 ++ field (get_or pair 1 0) 10) ++ entry_lines (pairs rest)
-unfolding entry_lines pairs
-first_pair l [] rest e h = absurd (let x : ⊥ = omega arith in x)
-first_pair l (a ∷ []) rest e h = absurd (let x : ⊥ = omega arith in x)
-first_pair l (a ∷ b ∷ []) rest e h =
-    rw e (ap (λ (t : List ℕ). t ++ entry_lines (pairs rest)) (sym (append-nil _) ∙ pair_line a b))
-first_pair l (a ∷ b ∷ c ∷ p) rest e h = absurd (let x : ⊥ = omega arith in x)
+pub last_number : (l : List ℕ) (i : ℕ) (behind : List ℕ) → i + 1 ≡ length l →
+    entry_line (drop i l) ++ behind ≡ field (get_or l i 0) 10 ++ behind
+unfolding entry_line further field
+last_number [] i behind h = absurd (let x : ⊥ = omega arith in x)
+last_number (a ∷ []) zero behind h = refl
+last_number (a ∷ b ∷ l) zero behind h = absurd (let x : ⊥ = omega arith in x)
+last_number (a ∷ l) (suc i) behind h = last_number l i behind (omega arith)
 
-pub no_pair : (l : List ℕ) → length l < 2 → entry_lines (pairs l) ≡ []
-unfolding entry_lines pairs
-no_pair [] h = refl
-no_pair (a ∷ []) h = refl
-no_pair (a ∷ b ∷ l) h = absurd (let x : ⊥ = omega arith in x)
+-- ---- lines of one size
 
--- ---- lines of one number
+pub first_row : (n : ℕ) → 0 < n → (l row rest : List ℕ) → l ≡ row ++ rest → length row ≡ n →
+    entry_lines (rows_of n l) ≡ entry_line row ++ entry_lines (rows_of n rest)
+unfolding entry_lines rows
+first_row n some l row rest e h =
+    rw (
+      e,
+      length-append row rest,
+      ← h,
+      add-div_left (length rest) (rw (← h) at some),
+      add-one,
+      take-append_seam row rest,
+      drop-append_seam row rest,
+    ) refl
 
-single_line : (a : ℕ) → entry_lines ((a ∷ []) ∷ []) ≡ field a 10
-unfolding entry_lines entry_line further field
-single_line a = append-nil (digits a ++ (10 ∷ []))
+pub no_row : (n : ℕ) (l : List ℕ) → length l < n → entry_lines (rows_of n l) ≡ []
+unfolding entry_lines rows
+no_row n l h = rw (div-eq_of_lt h) refl
 
-pub no_singles : (l : List ℕ) → entry_lines (singles (take 0 l)) ≡ []
-unfolding entry_lines singles
-no_singles l = refl
+pub rows_of_two : (l : List ℕ) → rows_of 2 l ≡ pairs l
+unfolding rows pairs
+rows_of_two [] = refl
+rows_of_two (a ∷ []) = refl
+rows_of_two (a ∷ b ∷ l) =
+    let halves : length (a ∷ b ∷ l) / 2 ≡ suc (length l / 2) = omega arith in
+    rw (halves, rows_of_two l) refl
 
-pub next_single : (l : List ℕ) (i : ℕ) → i < length l →
-    entry_lines (singles (take (i + 1) l)) ≡ entry_lines (singles (take i l)) ++ field (get_or l i 0) 10
-next_single l i h =
-    let entry = singles_next i l h in
-    rw (add-one, entry, entries_append, single_line (get_or l i 0))
-
-pub all_singles : (l : List ℕ) (i : ℕ) → i ≡ length l → entry_lines (singles (take i l)) ≡ entry_lines (singles l)
-all_singles l i e = rw (e, take-length)
+pub rows_of_one : (l : List ℕ) → rows_of 1 l ≡ singles l
+unfolding rows singles
+rows_of_one [] = refl
+rows_of_one (a ∷ l) =
+    let all : length (a ∷ l) / 1 ≡ suc (length l / 1) = omega arith in
+    rw (all, rows_of_one l) refl
 
 -- ---- the sections
 

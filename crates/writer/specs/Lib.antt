@@ -1,2 +1,3 @@
--- What writing a job as its text promises.
+-- What writing a job as its text promises, and the rows of its lines.
+pub mod Rows
 pub mod Writing

@@ -10,11 +10,13 @@
 // lanes is a fault of their count.
 #![tactic(auto)]
 
+ghost use Rattle.std.specs.Prelude.{◌<◌};
 ghost use Rattle.hall.specs.Job.{job_in};
 ghost use Rattle.put.specs.Putting.{Puts};
 ghost use Rattle.form.specs.Lines.{count_line, entry_lines};
 ghost use Rattle.form.specs.Contents.{written};
-ghost use Rattle.form.specs.Jobs.{pairs, singles, closed_contents, dwell_contents, text_of};
+ghost use Rattle.form.specs.Jobs.{closed_contents, dwell_contents, text_of};
+ghost use Rattle.writer.specs.Rows.{rows_of};
 ghost use Rattle.writer.specs.Writing.{said_written, Writing};
 
 use hall::zero::fill_first;
@@ -33,22 +35,16 @@ fn put_count(word: &[u8], count: usize, text: &mut Out)
     text.field(count, b'\n');
 }
 
-// Lines of two numbers: lanes and moves.
-fn put_pairs(numbers: &[u16], text: &mut Out)
-    ensures { Puts text.old (entry_lines (pairs numbers.now)) text.new }
+// Lines of `N` numbers: two for lanes and moves, one for closed nodes and the order.
+fn put_lines<const N: usize>(numbers: &[u16], text: &mut Out)
+    requires { 0 < N }
+    ensures { Puts text.old (entry_lines (rows_of N numbers.now)) text.new }
 {
-    for pair in numbers.chunks_exact(2) {
-        text.field(usize::from(pair[0]), b' ');
-        text.field(usize::from(pair[1]), b'\n');
-    }
-}
-
-// Lines of one number: closed nodes and the order.
-fn put_singles(numbers: &[u16], text: &mut Out)
-    ensures { Puts text.old (entry_lines (singles numbers.now)) text.new }
-{
-    for number in numbers {
-        text.field(usize::from(*number), b'\n');
+    for line in numbers.chunks_exact(N) {
+        for k in 0..N - 1 {
+            text.field(usize::from(line[k]), b' ');
+        }
+        text.field(usize::from(line[N - 1]), b'\n');
     }
 }
 
@@ -61,7 +57,7 @@ fn put_closed_nodes(closed: &[u16], text: &mut Out)
         return;
     }
     put_count(b"CLOSED", count, text);
-    put_singles(closed, text);
+    put_lines::<1>(closed, text);
 }
 
 // The line of the dwell, or nothing where it is 0.
@@ -81,12 +77,12 @@ fn put_job(job: &JobNumbers, text: &mut Out)
     let network = &job.network;
     put_count(b"NODES", network.nodes, text);
     put_count(b"LANES", network.lanes.len() / 2, text);
-    put_pairs(network.lanes, text);
+    put_lines::<2>(network.lanes, text);
     put_closed_nodes(network.closed, text);
     put_count(b"CARRIERS", job.moves.len() / 2, text);
-    put_pairs(job.moves, text);
+    put_lines::<2>(job.moves, text);
     put_count(b"ORDER", job.order.len(), text);
-    put_singles(job.order, text);
+    put_lines::<1>(job.order, text);
     put_dwell(job.dwell, text);
 }
 
