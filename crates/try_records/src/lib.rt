@@ -12,13 +12,43 @@
 // fixes the answer, every lent table and `fields` (proofs/Unique.antt). Nothing is decided here.
 #![tactic(auto)]
 
+ghost use Rattle.std.specs.Prelude.{◌≡◌};
+ghost use Rattle.std.specs.Fn.{CalledAtMut};
 ghost use Rattle.hall.specs.Floor.{network_in};
+ghost use Rattle.try_records.specs.Lent.{front_of, Lending};
 ghost use Rattle.try_records.specs.Lent.{LentReading, LentPlanning, LentHouse, LentList, LentWriting};
 
 use hall::{Carrier, Job, Network, Refusal};
 use jobs::{house, judge, plan, read_job, write_job};
 use records::Record;
 use try_columns::{LENDABLE, told, within};
+
+// Asks a question with the first `count` records, and writes what it leaves of them, and those behind, to
+// `fields`. What it leaves in the lists that it captures stands in `ask` afterwards.
+fn lend<R, F: FnMut(&mut [Record]) -> R>(
+    mut records: [Record; LENDABLE],
+    count: usize,
+    fields: &mut [u32],
+    ask: &mut F,
+) -> R
+    requires { F.IsAlwaysCallable ask.old }
+    ensures { Lending
+        (λ front left. CalledAtMut F.FnMut ask.old front result ask.new left)
+        count
+        records
+        fields.old fields.new }
+{
+    let answer = ask(&mut records[..within(count)]);
+    told(records, fields);
+    answer
+}
+
+// The first `count` records, for a question that only reads them.
+fn front(records: &[Record; LENDABLE], count: usize) -> &[Record]
+    ensures { result.now ≡ front_of count records.now }
+{
+    &records[..within(count)]
+}
 
 // `jobs::read_job` with the first `count` records lent.
 pub fn read_lent(
@@ -27,7 +57,7 @@ pub fn read_lent(
     closed: &mut [u16],
     count: usize,
     order: &mut [u16],
-    mut records: [Record; LENDABLE],
+    records: [Record; LENDABLE],
     fields: &mut [u32],
 ) -> Result<Job, Refusal>
     ensures { LentReading
@@ -40,10 +70,8 @@ pub fn read_lent(
         fields.old fields.new
         result }
 {
-    let front = &mut records[..within(count)];
-    let answer = read_job(text, lanes, closed, front, order);
-    told(records, fields);
-    answer
+    let mut ask = |front: &mut [Record]| read_job(text, lanes, closed, front, order);
+    lend(records, count, fields, &mut ask)
 }
 
 // `jobs::plan` with the first `count` records lent.
@@ -53,7 +81,7 @@ pub fn plan_lent(
     order: &[u16],
     dwell: usize,
     table: &mut [u16],
-    mut records: [Record; LENDABLE],
+    records: [Record; LENDABLE],
     fields: &mut [u32],
 ) -> Result<u32, Refusal>
     ensures { LentPlanning
@@ -67,10 +95,8 @@ pub fn plan_lent(
         fields.old fields.new
         result }
 {
-    let front = &mut records[..within(count)];
-    let answer = plan(network, front, order, dwell, table);
-    told(records, fields);
-    answer
+    let mut ask = |front: &mut [Record]| plan(network, front, order, dwell, table);
+    lend(records, count, fields, &mut ask)
 }
 
 // `jobs::house` with the first `count` records lent.
@@ -94,8 +120,7 @@ pub fn house_lent(
         records
         result }
 {
-    let front = &records[..within(count)];
-    house(network, front, order, dwell, carrier, path)
+    house(network, front(&records, count), order, dwell, carrier, path)
 }
 
 // `jobs::judge` with the first `count` records lent.
@@ -119,8 +144,7 @@ pub fn judge_lent(
         records
         result }
 {
-    let front = &records[..within(count)];
-    judge(network, front, order, dwell, carrier, list)
+    judge(network, front(&records, count), order, dwell, carrier, list)
 }
 
 // `jobs::write_job` with the first `count` records lent.
@@ -142,6 +166,5 @@ pub fn write_lent(
         records
         result }
 {
-    let front = &records[..within(count)];
-    write_job(network, front, order, dwell, out)
+    write_job(network, front(&records, count), order, dwell, out)
 }
