@@ -54,23 +54,23 @@ module _ {N : Network} {s g : ℕ} {row : List ℕ} (down : Downhill N s g row) 
 
   module _ {u m : ℕ} (small : m ≤ 1023) where
     -- a neighbour with m lanes to go is in the row as such
-    pub next_of : (v : ℕ) → Lane N.lanes u v → Dist (floor N) v g m → Next N.lanes row u m v
+    pub next_of : (v : ℕ) → Lane N.lanes u v → Dist (floor N) v g m → Next N.nodes N.lanes row u m v
     next_of v l h =
         let on : v < N.nodes = (begins_on_node h.walk).numbered in
         let back = distance small (dist_symmetric (lanes_symmetric N) h) in
         record {
-          numbered = omega (arith, down.size, on);
+          numbered = on;
           lane = l;
           at_distance = distance_unique (down.distances v on) back;
         }
 
-    pub next_distance : {v : ℕ} → Next N.lanes row u m v → Dist (floor N) v g m
+    pub next_distance : {v : ℕ} → Next N.nodes N.lanes row u m v → Dist (floor N) v g m
     next_distance {v} n =
         subst (λ (d : ℕ). Dist (floor N) v g d) n.at_distance
-        (row_distance v (omega (arith, down.size, n.numbered)) (λ e. omega (arith, n.at_distance)))
+        (row_distance v n.numbered (λ e. omega (arith, n.at_distance)))
 
     -- `next_node` answers such a neighbour, since there is one
-    pub next_found : (r : Option ℕ) → Dist (floor N) u g (suc m) → LowestNext N.lanes row u m r
-        → (v : ℕ) × (r ≡ Some v) × Next N.lanes row u m v
+    pub next_found : (r : Option ℕ) → Dist (floor N) u g (suc m) → LowestNext N.nodes N.lanes row u m r
+        → (v : ℕ) × (r ≡ Some v) × Next N.nodes N.lanes row u m v
     next_found (Some v) h n = (v, refl, n.is_next v refl)
     next_found Nothing h n = let b = first_lane h in absurd (n.lowest b.0 (next_of b.0 b.1 b.2))

@@ -84,7 +84,7 @@ module _ {N : Network} {s g d : ℕ} {path₀ : List ℕ} {u left at : ℕ} {pat
 
   -- and there is a next node
   pub next_there : {row : List ℕ} (r : Option ℕ) {m : ℕ} → Downhill N s g row → m + 1 ≡ left
-      → LowestNext N.lanes row u m r → IsSome r
+      → LowestNext N.nodes N.lanes row u m r → IsSome r
   next_there r {m} down one_less n =
       let e : left ≡ suc m = omega arith in
       let found = next_found down (omega (arith, l.adds, l.small)) r (rw e at distance_left) n in
@@ -93,11 +93,11 @@ module _ {N : Network} {s g d : ℕ} {path₀ : List ℕ} {u left at : ℕ} {pat
   -- ---- one step more
 
   module _ {row : List ℕ} (down : Downhill N s g row) {m v : ℕ} (one_less : m + 1 ≡ left)
-      (n : LowestNext N.lanes row u m (Some v)) where
+      (n : LowestNext N.nodes N.lanes row u m (Some v)) where
     few_left : m ≤ 1023
     few_left = omega (arith, l.adds, l.small)
 
-    next : Next N.lanes row u m v
+    next : Next N.nodes N.lanes row u m v
     next = n.is_next v refl
 
     rest : d - (at + 1) ≡ m

@@ -136,20 +136,20 @@ module _ (N : Network) (s g : ℕ) (list : List ℕ) where
 
   module _ {row : List ℕ} (down : Downhill N s g row) where
     -- a node with a walk to the goal is open
-    stands_on_open : AllOnWay row list → OnOpen
+    stands_on_open : AllOnWay N.nodes row list → OnOpen
     stands_on_open stands k l =
         begins_on_node
         (row_distance down (get_or list k 0)
-        (omega (arith, down.size, (stands k l).numbered)) (stands k l).reached
+        (stands k l).numbered (stands k l).reached
         ).walk
 
     -- and a node of a path has such a walk, the rest of the path
-    path_stands : {d : ℕ} → PathOf (floor N) s g d list → AllOnWay row list
+    path_stands : {d : ℕ} → PathOf (floor N) s g d list → AllOnWay N.nodes row list
     path_stands {d} p k l =
         let on = (path_open p k l).numbered in
         let rest = to_goal p k (omega (arith, p.size)) in
         record {
-          numbered = omega (arith, down.size, on);
+          numbered = on;
           reached = λ e.
               marked_none (down.distances (get_or list k 0) on) e (d - k) (reverse (lanes_symmetric N) rest);
         }
@@ -162,7 +162,7 @@ module _ (N : Network) (s g : ℕ) (list : List ℕ) where
       (none_asked (none_split (move_ends N s g) (asked Unreachable 0 (NoWalk (floor N) s g) ∷ []) none).1).0
 
   module _ (none : None (move_question N s g)) {row : List ℕ} (down : Downhill N s g row) where
-    pub list_passes : length list ≡ get_or row s 0 + 1 → AllOnWay row list
+    pub list_passes : length list ≡ get_or row s 0 + 1 → AllOnWay N.nodes row list
         → Walks N.lanes s g list
         → None (list_of_move N s g (Unfit N s g list))
     list_passes size stands w =
@@ -172,12 +172,12 @@ module _ (N : Network) (s g : ℕ) (list : List ℕ) where
     -- a list that lacks one of the terms: it has another length, stands on a node without a walk to the goal
     -- or does not lead there
     pub list_unfit :
-        ¬ ((length list ≡ get_or row s 0 + 1) × AllOnWay row list × Walks N.lanes s g list)
+        ¬ ((length list ≡ get_or row s 0 + 1) × AllOnWay N.nodes row list × Walks N.lanes s g list)
         → First (list_of_move N s g (Unfit N s g list)) (number_of NotShortest) 0
     list_unfit h = first_after none (asked_here (λ p. h (terms p)))
       where
         terms : ShortestPath (floor N) s g list
-            → (length list ≡ get_or row s 0 + 1) × AllOnWay row list × Walks N.lanes s g list
+            → (length list ≡ get_or row s 0 + 1) × AllOnWay N.nodes row list × Walks N.lanes s g list
         terms p =
             (shortest_size (start_distance down) p, path_stands down p.is_path, path_walks p.is_path)
 

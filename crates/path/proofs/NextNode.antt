@@ -16,9 +16,9 @@ use Rattle.path.specs.Steps.{Next, Leads, lower_of, Nearer, kept, taken, AtMost,
 
 pub record Seeking (lanes row : List ℕ) (u wanted i : ℕ) (best : Option ℕ) : Type 0 where
   -- the best so far is a neighbour at the wanted distance
-  pub is_next : (v : ℕ) → best ≡ Some v → Next lanes row u wanted v
+  pub is_next : (v : ℕ) → best ≡ Some v → Next (length row) lanes row u wanted v
   -- and no lane before i leads to a lower one
-  pub lowest : (v : ℕ) → (n : Next lanes row u wanted v) → 2 * n.lane.k < i → AtMost best v
+  pub lowest : (v : ℕ) → (n : Next (length row) lanes row u wanted v) → 2 * n.lane.k < i → AtMost best v
 
 pub seeking_none : (lanes row : List ℕ) (u wanted : ℕ) → Seeking lanes row u wanted 0 Nothing
 seeking_none lanes row u wanted = record {
@@ -27,7 +27,7 @@ seeking_none lanes row u wanted = record {
 }
 
 pub seeking_all : {lanes row : List ℕ} {u wanted i : ℕ} {best : Option ℕ} →
-    Seeking lanes row u wanted i best → length lanes ≤ i + 1 → LowestNext lanes row u wanted best
+    Seeking lanes row u wanted i best → length lanes ≤ i + 1 → LowestNext (length row) lanes row u wanted best
 seeking_all s all = record {
   is_next = s.is_next;
   lowest = λ v n. s.lowest v n (omega (arith, n.lane.inside));
@@ -44,20 +44,20 @@ below_end (Some v) b = omega arith
 below_end Nothing b = omega arith
 
 module _ {row : List ℕ} {u a b wanted : ℕ} {best r : Option ℕ} where
-  never_rises : Nearer row u a b wanted best r → (w : ℕ) → AtMost best w → AtMost r w
+  never_rises : Nearer (length row) row u a b wanted best r → (w : ℕ) → AtMost best w → AtMost r w
   never_rises (kept f e) w h = rw e h
   never_rises (taken x e) w h = rw e (falls best b w h)
 
-  not_above_end : Nearer row u a b wanted best r → Leads row u a b wanted → AtMost r b
+  not_above_end : Nearer (length row) row u a b wanted best r → Leads (length row) row u a b wanted → AtMost r b
   not_above_end (kept f e) x = absurd (f x)
   not_above_end (taken y e) x = rw e (below_end best b)
 
 module _ {lanes row : List ℕ} {u a b wanted : ℕ} (lane : a ≡ u → Lane lanes u b) where
-  lower_next : (best : Option ℕ) → ((v : ℕ) → best ≡ Some v → Next lanes row u wanted v)
-      → Leads row u a b wanted → Next lanes row u wanted (lower_of best b)
+  lower_next : (best : Option ℕ) → ((v : ℕ) → best ≡ Some v → Next (length row) lanes row u wanted v)
+      → Leads (length row) row u a b wanted → Next (length row) lanes row u wanted (lower_of best b)
   lower_next (Some v) next x = side (dec_le v b)
     where
-      side : Dec (v ≤ b) → Next lanes row u wanted (min v b)
+      side : Dec (v ≤ b) → Next (length row) lanes row u wanted (min v b)
       side (yes h) = let e : min v b ≡ v = omega arith in rw e (next v refl)
       side (no h) =
           let e : min v b ≡ b = omega arith in
@@ -65,8 +65,8 @@ module _ {lanes row : List ℕ} {u a b wanted : ℕ} (lane : a ≡ u → Lane la
   lower_next Nothing next x =
       record { numbered = x.numbered; lane = lane x.from_here; at_distance = x.at_distance }
 
-  still_next : {best r : Option ℕ} → ((v : ℕ) → best ≡ Some v → Next lanes row u wanted v)
-      → Nearer row u a b wanted best r → (v : ℕ) → r ≡ Some v → Next lanes row u wanted v
+  still_next : {best r : Option ℕ} → ((v : ℕ) → best ≡ Some v → Next (length row) lanes row u wanted v)
+      → Nearer (length row) row u a b wanted best r → (v : ℕ) → r ≡ Some v → Next (length row) lanes row u wanted v
   still_next next (kept f e) v is = next v (sym e ∙ is)
   still_next {best} next (taken x e) v is = rw (same_Some _ _ (sym e ∙ is)) at (lower_next best next x)
 
@@ -74,8 +74,8 @@ module _ {lanes row : List ℕ} {u a b wanted : ℕ} (lane : a ≡ u → Lane la
 
 pub seeking_lane : {lanes row : List ℕ} {u wanted i : ℕ} {best₁ best₂ best₃ : Option ℕ} →
     i % 2 ≡ 0 → i + 1 < length lanes → Seeking lanes row u wanted i best₁
-    → Nearer row u (get_or lanes i 0) (get_or lanes (i + 1) 0) wanted best₁ best₂
-    → Nearer row u (get_or lanes (i + 1) 0) (get_or lanes i 0) wanted best₂ best₃
+    → Nearer (length row) row u (get_or lanes i 0) (get_or lanes (i + 1) 0) wanted best₁ best₂
+    → Nearer (length row) row u (get_or lanes (i + 1) 0) (get_or lanes i 0) wanted best₂ best₃
     → Seeking lanes row u wanted (i + 2) best₃
 seeking_lane {lanes} {row} {u} {wanted} {i} {best₁} {best₂} {best₃} even inside s x y = record {
   is_next =
@@ -84,7 +84,7 @@ seeking_lane {lanes} {row} {u} {wanted} {i} {best₁} {best₂} {best₃} even i
   lowest = λ v n l. cases v n (lane_before lanes i even n.lane l);
 }
   where
-    cases : (v : ℕ) → (n : Next lanes row u wanted v) → LaneBefore lanes u v i n.lane.k → AtMost best₃ v
+    cases : (v : ℕ) → (n : Next (length row) lanes row u wanted v) → LaneBefore lanes u v i n.lane.k → AtMost best₃ v
     cases v n (earlier l) = never_rises y v (never_rises x v (s.lowest v n l))
     cases v n (forth p q) =
         never_rises y v

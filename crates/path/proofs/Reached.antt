@@ -56,16 +56,19 @@ module _ (N : Network) (s g : ℕ) (sound : None (move_ends N s g)) where
     pub walk_there : length row ≡ node_limit → get_or left s 0 ≢ no_walk_mark → MoveReached N s g (Ok left)
     walk_there size h =
         let there = (start_distance down).walk in
-        (none_append sound (asked_clear (λ none. none (get_or (take N.nodes left) s 0) there) none_at_all), down)
+        (none_append sound (asked_clear (λ none. none (get_or (take N.nodes left) s 0) there) none_at_all), down, sized)
       where
         -- each node has its place in the part of the row that has as many places
         as_filled : (v : ℕ) → v < N.nodes → get_or (take N.nodes left) v 0 ≡ get_or left v 0
         as_filled v l = get_or-take N.nodes left v 0 l
 
+        sized : length (take N.nodes left) ≡ N.nodes
+        sized = length-take-le N.nodes left (omega (arith, facts.few_nodes, filled.size))
+
         down : Downhill N s g (take N.nodes left)
         down = record {
           few = facts.few_nodes;
-          size = length-take-le N.nodes left (omega (arith, facts.few_nodes, filled.size));
+          wide = omega (arith, sized);
           distances = λ v l. rw (as_filled v l) (filled.holds v l);
           numbered = facts.start_open.numbered;
           reached = rw (as_filled s facts.start_open.numbered) h;

@@ -1,6 +1,6 @@
 -- The steps inside the questions about paths. No public promise speaks of them: the functions of this crate
 -- promise them to each other. N is the network, s and g are the move's start and goal.
---     Downhill       a row with the distance of every node to the goal, and no place more; the start is reached
+--     Downhill       a row with the distance of every node to the goal, and the start is reached
 --     MoveReached    what the checks of a move without a list answer: 2, 3, 12, 4, 5, 13, 8; where none holds,
 --                    a row that is downhill as far as there are nodes
 --     Next           node v is a neighbour of u, at the wanted distance
@@ -28,40 +28,41 @@ use Rattle.hall.specs.Questions.{move_question}
 
 pub record Downhill (N : Network) (s g : ℕ) (row : List ℕ) : Type 0 where
   pub few : N.nodes ≤ node_limit
-  pub size : length row ≡ N.nodes
+  pub wide : N.nodes ≤ length row
   pub distances : (v : ℕ) → v < N.nodes → DistanceIs (floor N) g v (get_or row v 0)
   pub numbered : s < N.nodes
   pub reached : get_or row s 0 ≢ no_walk_mark
 
 abbrev pub MoveReached : (N : Network) (s g : ℕ) → Result (List ℕ) Refusal → Type 0
 MoveReached N s g (Ok row) = None (move_question N s g) × Downhill N s g (take N.nodes row)
+    × (length (take N.nodes row) ≡ N.nodes)
 MoveReached N s g (Err r) = First (move_question N s g) (number_of r.fault) r.place
 
-pub record Next (lanes row : List ℕ) (u wanted v : ℕ) : Type 0 where
-  pub numbered : v < length row
+pub record Next (nodes : ℕ) (lanes row : List ℕ) (u wanted v : ℕ) : Type 0 where
+  pub numbered : v < nodes
   pub lane : Lane lanes u v
   pub at_distance : get_or row v 0 ≡ wanted
 
-pub record Leads (row : List ℕ) (u a b wanted : ℕ) : Type 0 where
+pub record Leads (nodes : ℕ) (row : List ℕ) (u a b wanted : ℕ) : Type 0 where
   pub from_here : a ≡ u
-  pub numbered : b < length row
+  pub numbered : b < nodes
   pub at_distance : get_or row b 0 ≡ wanted
 
 abbrev pub lower_of : Option ℕ → ℕ → ℕ
 lower_of (Some v) b = min v b
 lower_of Nothing b = b
 
-pub data Nearer (row : List ℕ) (u a b wanted : ℕ) (best r : Option ℕ) : Type 0 where
-  kept : ¬ Leads row u a b wanted → r ≡ best → Nearer row u a b wanted best r
-  taken : Leads row u a b wanted → r ≡ Some (lower_of best b) → Nearer row u a b wanted best r
+pub data Nearer (nodes : ℕ) (row : List ℕ) (u a b wanted : ℕ) (best r : Option ℕ) : Type 0 where
+  kept : ¬ Leads nodes row u a b wanted → r ≡ best → Nearer nodes row u a b wanted best r
+  taken : Leads nodes row u a b wanted → r ≡ Some (lower_of best b) → Nearer nodes row u a b wanted best r
 
 abbrev pub AtMost : Option ℕ → ℕ → Type 0
 AtMost (Some v) w = v ≤ w
 AtMost Nothing w = ⊥
 
-pub record LowestNext (lanes row : List ℕ) (u wanted : ℕ) (r : Option ℕ) : Type 0 where
-  pub is_next : (v : ℕ) → r ≡ Some v → Next lanes row u wanted v
-  pub lowest : (v : ℕ) → Next lanes row u wanted v → AtMost r v
+pub record LowestNext (nodes : ℕ) (lanes row : List ℕ) (u wanted : ℕ) (r : Option ℕ) : Type 0 where
+  pub is_next : (v : ℕ) → r ≡ Some v → Next nodes lanes row u wanted v
+  pub lowest : (v : ℕ) → Next nodes lanes row u wanted v → AtMost r v
 
 pub record Laid (N : Network) (s g : ℕ) (path path' : List ℕ) (count : ℕ) : Type 0 where
   pub d : ℕ
@@ -77,9 +78,9 @@ pub record Walks (lanes : List ℕ) (s g : ℕ) (list : List ℕ) : Type 0 where
   pub ends : get_or list (length list - 1) 0 ≡ g
   pub joins : (k : ℕ) → k + 1 < length list → Lane lanes (get_or list k 0) (get_or list (k + 1) 0)
 
-pub record OnWay (row : List ℕ) (v : ℕ) : Type 0 where
-  pub numbered : v < length row
+pub record OnWay (nodes : ℕ) (row : List ℕ) (v : ℕ) : Type 0 where
+  pub numbered : v < nodes
   pub reached : get_or row v 0 ≢ no_walk_mark
 
-abbrev pub AllOnWay : (row list : List ℕ) → Type 0
-AllOnWay row list = (k : ℕ) → k < length list → OnWay row (get_or list k 0)
+abbrev pub AllOnWay : (nodes : ℕ) (row list : List ℕ) → Type 0
+AllOnWay nodes row list = (k : ℕ) → k < length list → OnWay nodes row (get_or list k 0)

@@ -35,7 +35,7 @@ fn check_reached(network: &Network, ends: Ends) -> Result<[u16; Job::NODES], Ref
 // One end of a lane, seen from node u: if the lane leads from u to a node b at the wanted distance, the lower
 // of b and the best so far. The row has a place for each node.
 fn nearer(row: &[u16], u: u16, a: u16, b: u16, wanted: u16, best: Option<u16>) -> Option<u16>
-    ensures { Nearer row.now u a b wanted best result }
+    ensures { Nearer (length row.now) row.now u a b wanted best result }
 {
     if a != u || row.get(b as usize).copied() != Some(wanted) {
         return best;
@@ -45,7 +45,7 @@ fn nearer(row: &[u16], u: u16, a: u16, b: u16, wanted: u16, best: Option<u16>) -
 
 // The lowest-numbered neighbour of u at the wanted distance from the goal, if there is one.
 fn next_node(lanes: &[u16], row: &[u16], u: u16, wanted: u16) -> Option<u16>
-    ensures { LowestNext lanes.now row.now u wanted result }
+    ensures { LowestNext (length row.now) lanes.now row.now u wanted result }
 {
     let mut best = None;
     for k in 0..lanes.len() / 2 {
@@ -128,7 +128,7 @@ fn walks(lanes: &[u16], ends: Ends, list: &[u16]) -> bool
 // Whether each number of the list is a node with a walk to the goal, by the row of distances, which has a place
 // for each node: no such node is closed.
 fn all_on_way(row: &[u16], list: &[u16]) -> bool
-    ensures { Answers result (AllOnWay row.now list.now) }
+    ensures { Answers result (AllOnWay (length row.now) row.now list.now) }
 {
     list.iter().all(|node| row
         .get(*node as usize)

@@ -23,7 +23,7 @@ pub returns : goal.returns
 returns c =
     let N : Network = network_in c.args.network.now in
     let reached = c.in_ok-row.ensures in
-    let e = reached.1.size in
+    let e = reached.2 in
     let laid = rw e at (c.lay-count.ensures c.args.network.now.closed.now (rw e reached.1)) in
     record {
       given =

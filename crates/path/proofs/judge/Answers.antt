@@ -21,7 +21,8 @@ returns-then-walks c =
     let reached = c.in_ok-reached.ensures in
     record {
       judged =
-          list_passes _ _ _ _ reached.0 reached.1 c.if-list-whole.true c.if-all_on_way.ensures c.if-walks.ensures;
+          list_passes _ _ _ _ reached.0 reached.1 c.if-list-whole.true
+          (rw reached.2 at c.if-all_on_way.ensures) c.if-walks.ensures;
       network_kept = refl;
       list_kept = refl;
     }
@@ -35,7 +36,7 @@ returns c =
           list_unfit _ _ _ _ reached.0 reached.1
           (λ h. elim c.else-list-whole.branch [
             | else-list-whole-via-then-list-whole+then-all_on_way+else-walks w ↦ w.if-walks.ensures h.2
-            | else-list-whole-via-then-list-whole+else-all_on_way w ↦ w.if-all_on_way.ensures h.1
+            | else-list-whole-via-then-list-whole+else-all_on_way w ↦ w.if-all_on_way.ensures (rw reached.2 h.1)
             | else-list-whole-via-else-list-whole w ↦ w.if-list-whole.false h.0
           ]);
       network_kept = refl;
