@@ -2,8 +2,7 @@
 -- much further on. Two fronts, or two rests, that are cut at the same place of a list are equal. Numbers that
 -- are loaded one by one into a list stand at its front, with what it held behind them; so its front is the
 -- numbers. Assumes nothing.
---     short_of, long_of     a number of two bytes, and one of two such numbers, each read from the rest of a
---                           payload
+--     short_of, long_of     a number of two bytes, and one of four, at the front of the rest of a payload
 --     take_cut, drop_cut    fronts and rests of a list
 --     ShortsLoaded          how far a loop that loads numbers has come: shorts_none begins it, shorts_more
 --                           takes it a number further and shorts_whole ends it
@@ -28,20 +27,17 @@ module _ (s : List ℕ) (at : ℕ) where
       let next : at + (k + 1) ≡ at + k + 1 = omega arith in
       omega (arith, byte_further k, byte_further (k + 1) ∙ ap (byte_in s) next)
 
-  module _ {part : List ℕ} (left : part ≡ drop at s) {low high : ℕ} where
-    pub short_of : low ≡ byte_in part 0 → high ≡ byte_in part 1 → low + 256 * high ≡ short_in s at
-    unfolding short_in
-    short_of l h =
+  module _ {part : List ℕ} (left : part ≡ drop at s) where
+    pub short_of : short_in part 0 ≡ short_in s at
+    short_of =
         let here : at + 0 ≡ at = omega arith in
-        let low_byte = l ∙ ap (λ (p : List ℕ). byte_in p 0) left ∙ byte_further 0 ∙ ap (byte_in s) here in
-        let high_byte = h ∙ ap (λ (p : List ℕ). byte_in p 1) left ∙ byte_further 1 in
-        omega (arith, low_byte, high_byte)
+        ap (λ (p : List ℕ). short_in p 0) left ∙ short_further 0 ∙ ap (short_in s) here
 
-    pub long_of : low ≡ short_in s at → high ≡ short_in part 2 → low + 65536 * high ≡ long_in s at
+    pub long_of : long_in part 0 ≡ long_in s at
     unfolding long_in
-    long_of l h =
-        let high_short = h ∙ ap (λ (p : List ℕ). short_in p 2) left ∙ short_further 2 in
-        omega (arith, l, high_short)
+    long_of =
+        let high_short = ap (λ (p : List ℕ). short_in p 2) left ∙ short_further 2 in
+        omega (arith, short_of, high_short)
 
 -- ---- fronts and rests of a list
 

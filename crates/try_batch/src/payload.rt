@@ -39,18 +39,20 @@ pub fn short_at(s: &[u8], at: usize) -> u16
     ensures { result ≡ short_in s.now at }
 {
     let part = rest(s, at);
-    let low = byte_at(part, 0) as u16;
-    let high = byte_at(part, 1) as u16;
-    low + 256 * high
+    u16::from_le_bytes([byte_at(part, 0), byte_at(part, 1)])
 }
 
 // The u32 at a place.
 pub fn long_at(s: &[u8], at: usize) -> u32
     ensures { result ≡ long_in s.now at }
 {
-    let low = short_at(s, at) as u32;
-    let high = short_at(rest(s, at), 2) as u32;
-    low + 65536 * high
+    let part = rest(s, at);
+    u32::from_le_bytes([
+        byte_at(part, 0),
+        byte_at(part, 1),
+        byte_at(part, 2),
+        byte_at(part, 3),
+    ])
 }
 
 // The front of a list, as much as `count` says and there is.
