@@ -8,17 +8,18 @@ use planner::plan_moves;
 use std::io;
 use std::io::Write;
 use try_batch::kind::Kind;
-use try_batch::marked::{BYTE_MARK, MARK, PLACES, TEXT_ROOM, lend, print_runs, print_written};
+use try_batch::marked::{MARK, PLACES, lend, print_runs};
 use try_batch::payload::{LIST_ROOM, behind_list, filled, loaded_list, rest, short_at};
-use try_batch::{often, print};
+use try_batch::{often, print, questions};
 use writer::write_numbers;
 
 pub(crate) fn ask<W: Write>(out: &mut W, kind: Kind, s: &[u8], job: &JobNumbers) -> io::Result<()> {
     let network = &job.network;
+    let carrier = Carrier(short_at(s, 2));
     match kind {
         Kind::PlanNumbers => plan(out, s, job),
-        Kind::HouseForText => print_house_for(out, s, job),
-        Kind::JudgeForText => print_judged_for(out, s, job),
+        Kind::HouseForText => questions::house(out, s, |path| house_for(job, carrier, path)),
+        Kind::JudgeForText => questions::judge(out, s, |list| judge_for(job, carrier, list)),
         Kind::WriteText | Kind::WriteNumbers => write(out, s, job),
         Kind::JudgeText => print_judged(out, s, network),
         Kind::HouseJudgeNumbers => {
@@ -46,26 +47,11 @@ fn plan<W: Write>(out: &mut W, s: &[u8], job: &JobNumbers) -> io::Result<()> {
     print_runs(out, "ticks", &ticks)
 }
 
-fn print_house_for<W: Write>(out: &mut W, s: &[u8], job: &JobNumbers) -> io::Result<()> {
-    let mut path: [u16; 1100] = filled(MARK);
-    let housed = house_for(job, Carrier(short_at(s, 2)), lend(&mut path, s, 0));
-    print::housed(out, housed)?;
-    print_runs(out, "path", &path)
-}
-
-fn print_judged_for<W: Write>(out: &mut W, s: &[u8], job: &JobNumbers) -> io::Result<()> {
-    let mut room: [u16; LIST_ROOM] = filled(0);
-    let list = loaded_list(rest(s, 8), &mut room);
-    print::judged(out, judge_for(job, Carrier(short_at(s, 2)), list))
-}
-
 // The job is written once, and then as often as the payload's second number says: the benchmark gets the time
 // of writing from that.
 fn write<W: Write>(out: &mut W, s: &[u8], job: &JobNumbers) -> io::Result<()> {
-    let mut bytes: [u8; TEXT_ROOM] = filled(BYTE_MARK);
-    let room = lend(&mut bytes, s, 0);
-    let answer = often(short_at(s, 2), || write_numbers(job, room));
-    print_written(out, answer, &bytes)
+    let further = short_at(s, 2);
+    questions::write(out, s, |room| often(further, || write_numbers(job, room)))
 }
 
 // ---- questions about a move
@@ -79,16 +65,11 @@ fn ends_in(s: &[u8]) -> Ends {
 }
 
 fn print_house<W: Write>(out: &mut W, s: &[u8], network: &Network) -> io::Result<()> {
-    let mut path: [u16; 1100] = filled(MARK);
-    let housed = house(network, ends_in(s), lend(&mut path, s, 0));
-    print::housed(out, housed)?;
-    print_runs(out, "path", &path)
+    questions::house(out, s, |path| house(network, ends_in(s), path))
 }
 
 fn print_judged<W: Write>(out: &mut W, s: &[u8], network: &Network) -> io::Result<()> {
-    let mut room: [u16; LIST_ROOM] = filled(0);
-    let list = loaded_list(rest(s, 8), &mut room);
-    print::judged(out, judge(network, ends_in(s), list))
+    questions::judge(out, s, |list| judge(network, ends_in(s), list))
 }
 
 // The choice, and how long the chosen list is.

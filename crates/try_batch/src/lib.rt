@@ -12,6 +12,7 @@ pub mod kind;
 pub mod marked;
 pub mod payload;
 pub mod print;
+pub mod questions;
 
 ghost use Rattle.std.specs.Prelude.{◌≡◌, IfOk, OnErr, length};
 ghost use Rattle.try_batch.specs.Cases.{CaseRead};

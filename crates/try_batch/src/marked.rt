@@ -5,9 +5,7 @@
 ghost use Rattle.std.specs.Prelude.{◌≡◌, take};
 ghost use Rattle.try_batch.specs.Payloads.{short_in};
 
-use super::payload::{front, rest, short_at};
-use super::print;
-use hall::Refusal;
+use super::payload::short_at;
 use std::fmt::Display;
 use std::io;
 use std::io::Write;
@@ -42,25 +40,4 @@ pub fn print_runs<W: Write, T: PartialEq + Display>(
         write!(out, " {}x{}", run.len(), run[0])?;
     }
     writeln!(out)
-}
-
-// The answer to writing a job, the text as it is, and what all bytes behind it hold: after a refusal that is
-// all there are.
-pub fn print_written<W: Write>(
-    out: &mut W,
-    answer: Result<usize, Refusal>,
-    bytes: &[u8],
-) -> io::Result<()> {
-    let count = match answer {
-        Ok(count) => {
-            writeln!(out, "BYTES {count}")?;
-            count
-        }
-        Err(refusal) => {
-            writeln!(out, "{refusal}")?;
-            0
-        }
-    };
-    out.write_all(front(bytes, count))?;
-    print_runs(out, "out", rest(bytes, count))
 }

@@ -7,12 +7,12 @@ use records::Record;
 use std::io;
 use std::io::Write;
 use try_batch::kind::Kind;
-use try_batch::marked::{BYTE_MARK, MARK, PLACES, TEXT_ROOM, lend, print_runs, print_written};
+use try_batch::marked::{MARK, PLACES, lend, print_runs};
 use try_batch::payload::{
-    JOB_ROOM, LIST_ROOM, behind_job, behind_list, behind_network, filled, loaded_list,
-    loaded_network, long_at, rest, short_at,
+    JOB_ROOM, behind_job, behind_list, behind_network, filled, loaded_list, loaded_network,
+    long_at, short_at,
 };
-use try_batch::print;
+use try_batch::{print, questions};
 use try_columns::{LENDABLE, made};
 use try_records::{house_lent, judge_lent, plan_lent, read_lent, write_lent};
 
@@ -99,43 +99,44 @@ fn plan<W: Write>(out: &mut W, s: &[u8], job: &Recorded) -> io::Result<()> {
 }
 
 fn house<W: Write>(out: &mut W, s: &[u8], job: &Recorded) -> io::Result<()> {
-    let mut path: [u16; 1100] = filled(MARK);
-    let housed = house_lent(
-        &job.network,
-        job.count,
-        job.order,
-        job.dwell,
-        Carrier(short_at(s, 2)),
-        lend(&mut path, s, 0),
-        job.records,
-    );
-    print::housed(out, housed)?;
-    print_runs(out, "path", &path)
+    let carrier = Carrier(short_at(s, 2));
+    questions::house(out, s, |path| {
+        house_lent(
+            &job.network,
+            job.count,
+            job.order,
+            job.dwell,
+            carrier,
+            path,
+            job.records,
+        )
+    })
 }
 
 fn judge<W: Write>(out: &mut W, s: &[u8], job: &Recorded) -> io::Result<()> {
-    let mut room: [u16; LIST_ROOM] = filled(0);
-    let judged = judge_lent(
-        &job.network,
-        job.count,
-        job.order,
-        job.dwell,
-        Carrier(short_at(s, 2)),
-        loaded_list(rest(s, 8), &mut room),
-        job.records,
-    );
-    print::judged(out, judged)
+    let carrier = Carrier(short_at(s, 2));
+    questions::judge(out, s, |list| {
+        judge_lent(
+            &job.network,
+            job.count,
+            job.order,
+            job.dwell,
+            carrier,
+            list,
+            job.records,
+        )
+    })
 }
 
 fn write<W: Write>(out: &mut W, s: &[u8], job: &Recorded) -> io::Result<()> {
-    let mut bytes: [u8; TEXT_ROOM] = filled(BYTE_MARK);
-    let answer = write_lent(
-        &job.network,
-        job.count,
-        job.order,
-        job.dwell,
-        lend(&mut bytes, s, 0),
-        job.records,
-    );
-    print_written(out, answer, &bytes)
+    questions::write(out, s, |room| {
+        write_lent(
+            &job.network,
+            job.count,
+            job.order,
+            job.dwell,
+            room,
+            job.records,
+        )
+    })
 }
