@@ -28,6 +28,9 @@
 // fall. The ends of the lanes are tested in the sweeps only where the list is not clean: its greatest
 // number is no node.
 //
+// A round and a sweep are compiled as functions of their own: laid into the walk they take longer, and a plan in a
+// dense hall a third more.
+//
 // Working memory: some twenty numbers, and no list. The row is the caller's.
 #![tactic(auto)]
 
@@ -142,6 +145,7 @@ fn look(clean: bool, a: u16, b: u16, row: &mut [u16]) -> bool
 // first `todo`, from the last of them to the first. The answer is how many lanes it had left out or looked
 // at before the one at which a label fell last, 0 if none fell: these are the lanes of the next sweep,
 // which goes the other way.
+#[inline(never)]
 fn sweep(lanes: &Lanes, back: bool, todo: usize, row: &mut [u16]) -> usize
     requires { Sweepable (length row.old) lanes.now.list.now back todo row.old }
     ensures { LanesSwept (length row.old) lanes.now.list.now back
@@ -165,6 +169,7 @@ fn sweep(lanes: &Lanes, back: bool, todo: usize, row: &mut [u16]) -> usize
 
 // One round: a look at each lane whose two labels have this sum. The answer is how many labels fell. The list
 // is clean.
+#[inline(never)]
 fn spread(lanes: &[u16], sum: usize, row: &mut [u16]) -> usize
     requires { Clean (length row.old) lanes.now true }
     ensures { OnlyFell (length row.old) lanes.now row.old row.new
