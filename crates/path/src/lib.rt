@@ -43,7 +43,9 @@ fn nearer(row: &[u16], u: u16, a: u16, b: u16, wanted: u16, best: Option<u16>) -
     Some(best.unwrap_or(b).min(b))
 }
 
-// The lowest-numbered neighbour of u at the wanted distance from the goal, if there is one.
+// The lowest-numbered neighbour of u at the wanted distance from the goal, if there is one. It is compiled as a
+// function of its own, which takes less time than its loop does within another.
+#[inline(never)]
 fn next_node(lanes: &[u16], row: &[u16], u: u16, wanted: u16) -> Option<u16>
     ensures { LowestNext (length row.now) lanes.now row.now u wanted result }
 {
