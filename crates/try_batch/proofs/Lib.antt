@@ -1,2 +1,3 @@
--- The laws of the numbers and lists of a payload.
+-- The laws of the numbers and lists of a payload, and that a byte has one kind.
 pub mod Payloads
+pub mod Letters
