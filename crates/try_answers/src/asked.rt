@@ -8,9 +8,9 @@ use planner::plan_moves;
 use std::io;
 use std::io::Write;
 use try_batch::kind::Kind;
-use try_batch::marked::{MARK, PLACES, lend, print_runs};
-use try_batch::payload::{LIST_ROOM, behind_list, filled, loaded_list, rest, short_at};
-use try_batch::{often, print, questions};
+use try_batch::marked::{MARK, lend, marked_bytes, marked_shorts, print_runs};
+use try_batch::payload::{behind_list, filled, list_room, loaded_list, rest, short_at};
+use try_batch::print;
 use writer::write_numbers;
 
 pub(crate) fn ask<W: Write>(out: &mut W, kind: Kind, s: &[u8], job: &JobNumbers) -> io::Result<()> {
@@ -18,8 +18,8 @@ pub(crate) fn ask<W: Write>(out: &mut W, kind: Kind, s: &[u8], job: &JobNumbers)
     let carrier = Carrier(short_at(s, 2));
     match kind {
         Kind::PlanNumbers => plan(out, s, job),
-        Kind::HouseForText => questions::house(out, s, |path| house_for(job, carrier, path)),
-        Kind::JudgeForText => questions::judge(out, s, |list| judge_for(job, carrier, list)),
+        Kind::HouseForText => print_house_for(out, s, job, carrier),
+        Kind::JudgeForText => print_judged_for(out, s, job, carrier),
         Kind::WriteText | Kind::WriteNumbers => write(out, s, job),
         Kind::JudgeText => print_judged(out, s, network),
         Kind::HouseJudgeNumbers => {
@@ -32,7 +32,7 @@ pub(crate) fn ask<W: Write>(out: &mut W, kind: Kind, s: &[u8], job: &JobNumbers)
 }
 
 fn plan<W: Write>(out: &mut W, s: &[u8], job: &JobNumbers) -> io::Result<()> {
-    let mut table: [u16; PLACES] = filled(MARK);
+    let mut table = marked_shorts();
     let mut distances: [u16; 100] = filled(MARK);
     let mut ticks: [u32; 100] = filled(MARK as u32);
     let planned = plan_moves(
@@ -42,16 +42,42 @@ fn plan<W: Write>(out: &mut W, s: &[u8], job: &JobNumbers) -> io::Result<()> {
         lend(&mut ticks, s, 4),
     );
     print::planned(out, planned)?;
-    print_runs(out, "table", &table)?;
-    print_runs(out, "distances", &distances)?;
-    print_runs(out, "ticks", &ticks)
+    print_runs(out, b"table", &table)?;
+    print_runs(out, b"distances", &distances)?;
+    print_runs(out, b"ticks", &ticks)
+}
+
+fn print_house_for<W: Write>(
+    out: &mut W,
+    s: &[u8],
+    job: &JobNumbers,
+    carrier: Carrier,
+) -> io::Result<()> {
+    let mut path: [u16; 1100] = filled(MARK);
+    let housed = house_for(job, carrier, lend(&mut path, s, 0));
+    print::housed(out, housed, &path)
+}
+
+fn print_judged_for<W: Write>(
+    out: &mut W,
+    s: &[u8],
+    job: &JobNumbers,
+    carrier: Carrier,
+) -> io::Result<()> {
+    let mut room = list_room();
+    let judged = judge_for(job, carrier, loaded_list(rest(s, 8), &mut room));
+    print::judged(out, judged)
 }
 
 // The job is written once, and then as often as the payload's second number says: the benchmark gets the time
 // of writing from that.
 fn write<W: Write>(out: &mut W, s: &[u8], job: &JobNumbers) -> io::Result<()> {
-    let further = short_at(s, 2);
-    questions::write(out, s, |room| often(further, || write_numbers(job, room)))
+    let mut bytes = marked_bytes();
+    for _ in 0..short_at(s, 2) {
+        let _ = write_numbers(job, lend(&mut bytes, s, 0));
+    }
+    let written = write_numbers(job, lend(&mut bytes, s, 0));
+    print::written(out, written, &bytes)
 }
 
 // ---- questions about a move
@@ -65,18 +91,22 @@ fn ends_in(s: &[u8]) -> Ends {
 }
 
 fn print_house<W: Write>(out: &mut W, s: &[u8], network: &Network) -> io::Result<()> {
-    questions::house(out, s, |path| house(network, ends_in(s), path))
+    let mut path: [u16; 1100] = filled(MARK);
+    let housed = house(network, ends_in(s), lend(&mut path, s, 0));
+    print::housed(out, housed, &path)
 }
 
 fn print_judged<W: Write>(out: &mut W, s: &[u8], network: &Network) -> io::Result<()> {
-    questions::judge(out, s, |list| judge(network, ends_in(s), list))
+    let mut room = list_room();
+    let judged = judge(network, ends_in(s), loaded_list(rest(s, 8), &mut room));
+    print::judged(out, judged)
 }
 
 // The choice, and how long the chosen list is.
 fn print_chosen<W: Write>(out: &mut W, s: &[u8], network: &Network) -> io::Result<()> {
     let from = rest(s, 8);
-    let mut own_room: [u16; LIST_ROOM] = filled(0);
-    let mut spare_room: [u16; LIST_ROOM] = filled(0);
+    let mut own_room = list_room();
+    let mut spare_room = list_room();
     let own = loaded_list(from, &mut own_room);
     let spare = loaded_list(behind_list(from), &mut spare_room);
     let chosen = choose(network, ends_in(s), own, spare);

@@ -13,7 +13,7 @@ use std::io;
 use std::io::Write;
 use try_batch::kind::Kind;
 use try_batch::payload::{
-    JOB_ROOM, behind_list, behind_network, body, filled, loaded_list, loaded_network, long_at,
+    behind_list, behind_network, body, job_room, loaded_list, loaded_network, long_at,
 };
 
 // The answer to a case, by the letter of its kind.
@@ -43,10 +43,10 @@ pub fn answer<W: Write>(out: &mut W, letter: u8, s: &[u8]) -> io::Result<()> {
 
 // A question about a job from numbers: nodes, lane numbers, closed nodes, moves, order and dwell.
 fn ask_numbers<W: Write>(out: &mut W, kind: Kind, s: &[u8], job: &[u8]) -> io::Result<()> {
-    let mut lanes: [u16; JOB_ROOM] = filled(0);
-    let mut closed: [u16; JOB_ROOM] = filled(0);
-    let mut moves: [u16; JOB_ROOM] = filled(0);
-    let mut order: [u16; JOB_ROOM] = filled(0);
+    let mut lanes = job_room();
+    let mut closed = job_room();
+    let mut moves = job_room();
+    let mut order = job_room();
     let carriers = behind_network(job);
     let places = behind_list(carriers);
     ask(

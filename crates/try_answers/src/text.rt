@@ -6,9 +6,9 @@ use reader::read_numbers;
 use std::io;
 use std::io::Write;
 use try_batch::kind::Kind;
-use try_batch::marked::{BYTE_MARK, MARK, PLACES, lend, print_runs};
+use try_batch::marked::{BYTE_MARK, MARK, lend, marked_shorts, print_runs};
 use try_batch::payload::{filled, front, short_at};
-use try_batch::{often, print};
+use try_batch::print;
 
 // The answer to a text, as it is printed.
 pub(crate) fn plan<W: Write>(out: &mut W, text: &[u8]) -> io::Result<()> {
@@ -22,11 +22,11 @@ pub(crate) fn print_to<W: Write>(out: &mut W, s: &[u8], text: &[u8]) -> io::Resu
     let mut room: [u8; 2100] = filled(BYTE_MARK);
     let count = report::answer(text, lend(&mut room, s, 0));
     writeln!(out, "BYTES {count}")?;
-    print_runs(out, "out", &room)
+    print_runs(out, b"out", &room)
 }
 
 pub(crate) fn read<W: Write>(out: &mut W, s: &[u8], text: &[u8]) -> io::Result<()> {
-    let mut lanes: [u16; PLACES] = filled(MARK);
+    let mut lanes = marked_shorts();
     let mut closed: [u16; 1100] = filled(MARK);
     let mut moves: [u16; 200] = filled(MARK);
     let mut order: [u16; 100] = filled(MARK);
@@ -38,10 +38,10 @@ pub(crate) fn read<W: Write>(out: &mut W, s: &[u8], text: &[u8]) -> io::Result<(
         lend(&mut order, s, 6),
     );
     print::read(out, read)?;
-    print_runs(out, "lanes", &lanes)?;
-    print_runs(out, "closed", &closed)?;
-    print_runs(out, "moves", &moves)?;
-    print_runs(out, "order", &order)
+    print_runs(out, b"lanes", &lanes)?;
+    print_runs(out, b"closed", &closed)?;
+    print_runs(out, b"moves", &moves)?;
+    print_runs(out, b"order", &order)
 }
 
 // A question about the job of a text. The text is read once, and then as often as the payload's last number
@@ -51,14 +51,11 @@ pub(crate) fn ask_of<W: Write>(out: &mut W, kind: Kind, s: &[u8], text: &[u8]) -
     let mut closed = [0u16; Job::NODES];
     let mut moves = [0u16; Job::MOVE_NUMBERS];
     let mut order = [0u16; Job::CARRIERS];
-    let read = often(
-        short_at(s, 6),
-        || read_numbers(text, &mut lanes, &mut closed, &mut moves, &mut order),
-    );
-    print::answer(
-        out,
-        read,
-        |out, job| ask(
+    for _ in 0..short_at(s, 6) {
+        let _ = read_numbers(text, &mut lanes, &mut closed, &mut moves, &mut order);
+    }
+    match read_numbers(text, &mut lanes, &mut closed, &mut moves, &mut order) {
+        Ok(job) => ask(
             out,
             kind,
             s,
@@ -73,5 +70,6 @@ pub(crate) fn ask_of<W: Write>(out: &mut W, kind: Kind, s: &[u8], text: &[u8]) -
                 dwell: job.dwell,
             },
         ),
-    )
+        Err(refusal) => writeln!(out, "{refusal}"),
+    }
 }

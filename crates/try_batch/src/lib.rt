@@ -12,17 +12,13 @@ pub mod kind;
 pub mod marked;
 pub mod payload;
 pub mod print;
-pub mod questions;
 
-ghost use Rattle.std.specs.Prelude.{◌≡◌, IfOk, OnErr, length};
-ghost use Rattle.try_batch.specs.Cases.{CaseRead};
+ghost use Rattle.std.specs.Prelude.{◌≡◌, IfOk, OnErr, length, replicate};
+ghost use Rattle.try_batch.specs.Cases.{payload_room, CaseRead};
 
 use input::read_full;
 use std::io;
 use std::io::{Read, Write};
-
-// So many bytes has the room for a payload; no payload of a batch has more.
-pub const PAYLOAD_ROOM: usize = 262144;
 
 // A case: the byte of its kind, and how many bytes of the space its payload takes.
 #[derive(Clone, Copy)]
@@ -31,15 +27,14 @@ pub struct Case {
     pub count: usize,
 }
 
-// Asks so many times more than once, and has the last answer: the benchmark gets the time of a question from
-// that. Each time the same is asked, and the same is left.
-pub fn often<R: Drop, F: FnMut() -> R>(further: u16, mut ask: F) -> R
-    requires { F.IsAlwaysCallable ask }
+// So many bytes has the room for a payload; no payload of a batch has more.
+pub const PAYLOAD_ROOM: usize = 262144;
+
+// Room for a payload.
+pub fn payload_room() -> [u8; PAYLOAD_ROOM]
+    ensures { result ≡ replicate payload_room 0 }
 {
-    for _ in 0..further {
-        let _ = ask();
-    }
-    ask()
+    payload::filled(0)
 }
 
 // Reads the next case, as much of its payload as the space and the input have, and prints its number; there is

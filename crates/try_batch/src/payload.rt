@@ -3,7 +3,7 @@
 ghost use Rattle.std.specs.Prelude.{◌≡◌, min, length, take, drop, replicate};
 ghost use Rattle.hall.specs.Floor.{network_of, network_in};
 ghost use Rattle.try_batch.specs.Payloads.{byte_in, short_in, long_in, shorts_in, shorts_over};
-ghost use Rattle.try_batch.specs.Payloads.{list_in, behind_list, body_in};
+ghost use Rattle.try_batch.specs.Payloads.{list_room, job_room, list_in, behind_list, body_in};
 
 use hall::Network;
 
@@ -19,6 +19,20 @@ pub fn filled<T: Copy, const N: usize>(value: T) -> [T; N]
     ensures { result ≡ replicate N value }
 {
     [value; N]
+}
+
+// Room for a list of nodes.
+pub fn list_room() -> [u16; LIST_ROOM]
+    ensures { result ≡ replicate list_room 0 }
+{
+    filled(0)
+}
+
+// Room for a list of a job.
+pub fn job_room() -> [u16; JOB_ROOM]
+    ensures { result ≡ replicate job_room 0 }
+{
+    filled(0)
 }
 
 fn byte_at(s: &[u8], at: usize) -> u8

@@ -1,49 +1,52 @@
 // Printing answers. What is written goes to the writer that is lent; where a function answers nothing, that it
 // is safe and ends is all there is to promise. An error that it answers is the writer's.
+use super::marked::print_runs;
+use super::payload::{front, rest};
 use hall::{Job, Refusal};
 use std::io;
 use std::io::Write;
 
-// An answer: what is printed of its value, or the refusal.
-pub fn answer<W: Write, T, F: FnOnce(&mut W, T) -> io::Result<()>>(
-    out: &mut W,
-    answer: Result<T, Refusal>,
-    accepted: F,
-) -> io::Result<()>
-    requires { F.IsAlwaysCallable accepted }
-{
-    match answer {
-        Ok(value) => accepted(out, value),
+// The counts of a job that was read, and its dwell.
+pub fn read<W: Write>(out: &mut W, read: Result<Job, Refusal>) -> io::Result<()> {
+    match read {
+        Ok(
+            Job {
+                nodes,
+                lanes,
+                closed,
+                carriers,
+                dwell,
+            },
+        ) => writeln!(out, "READ {nodes} {lanes} {closed} {carriers} {dwell}"),
         Err(refusal) => writeln!(out, "{refusal}"),
     }
 }
 
-// The counts of a job that was read, and its dwell.
-fn counts<W: Write>(out: &mut W, job: Job) -> io::Result<()> {
-    let Job {
-        nodes,
-        lanes,
-        closed,
-        carriers,
-        dwell,
-    } = job;
-    writeln!(out, "READ {nodes} {lanes} {closed} {carriers} {dwell}")
-}
-
-pub fn read<W: Write>(out: &mut W, read: Result<Job, Refusal>) -> io::Result<()> {
-    answer(out, read, |out, job| counts(out, job))
-}
-
 pub fn planned<W: Write>(out: &mut W, planned: Result<u32, Refusal>) -> io::Result<()> {
-    answer(out, planned, |out, cost| writeln!(out, "COST {cost}"))
+    match planned {
+        Ok(cost) => writeln!(out, "COST {cost}"),
+        Err(refusal) => writeln!(out, "{refusal}"),
+    }
 }
 
-pub fn housed<W: Write>(out: &mut W, housed: Result<usize, Refusal>) -> io::Result<()> {
-    answer(out, housed, |out, count| writeln!(out, "PATH {count}"))
+// The answer to a question for a house path, and what the whole table holds of which the front was lent for it.
+pub fn housed<W: Write>(
+    out: &mut W,
+    housed: Result<usize, Refusal>,
+    table: &[u16],
+) -> io::Result<()> {
+    match housed {
+        Ok(count) => writeln!(out, "PATH {count}")?,
+        Err(refusal) => writeln!(out, "{refusal}")?,
+    }
+    print_runs(out, b"path", table)
 }
 
 pub fn judged<W: Write>(out: &mut W, judged: Result<(), Refusal>) -> io::Result<()> {
-    answer(out, judged, |out, _| writeln!(out, "PASSED"))
+    match judged {
+        Ok(()) => writeln!(out, "PASSED"),
+        Err(refusal) => writeln!(out, "{refusal}"),
+    }
 }
 
 // The choice between two lists. The library answers the lent list itself; here it is told by its contents,
@@ -55,5 +58,25 @@ pub fn chosen<W: Write>(out: &mut W, list: &[u16], own: &[u16]) -> io::Result<()
         writeln!(out, "OWN")
     } else {
         writeln!(out, "SPARE")
+    }
+}
+
+// The answer to writing a job, the text as it is, and what all bytes behind it hold: after a refusal that is
+// all there are.
+pub fn written<W: Write>(
+    out: &mut W,
+    written: Result<usize, Refusal>,
+    bytes: &[u8],
+) -> io::Result<()> {
+    match written {
+        Ok(count) => {
+            writeln!(out, "BYTES {count}")?;
+            out.write_all(front(bytes, count))?;
+            print_runs(out, b"out", rest(bytes, count))
+        }
+        Err(refusal) => {
+            writeln!(out, "{refusal}")?;
+            print_runs(out, b"out", bytes)
+        }
     }
 }

@@ -10,8 +10,7 @@ use std::io;
 use std::io::Write;
 use try_batch::kind::Kind;
 use try_batch::marked::print_runs;
-use try_batch::payload::{JOB_ROOM, behind_job, filled, loaded_network, long_at, rest, short_at};
-use try_batch::{often, print};
+use try_batch::payload::{behind_job, filled, job_room, loaded_network, long_at, rest, short_at};
 use try_book::{admit_lent, may_start_lent};
 
 // What a payload has of a slot, of a book, and of a call or a question.
@@ -56,7 +55,7 @@ fn print_book<W: Write>(out: &mut W, book: &Book) -> io::Result<()> {
             slot.tick,
         ]);
     }
-    print_runs(out, "book", &numbers)
+    print_runs(out, b"book", &numbers)
 }
 
 // Calls, questions or trolleys one after the other, as many as the payload's first number says: what each
@@ -91,12 +90,14 @@ pub(crate) fn call<W: Write>(
     ends: Ends,
     book: Book,
 ) -> io::Result<Book> {
-    let Stepped { answer, book } = often(further, || admit_lent(book, clock, network, ends));
-    print::answer(
-        out,
-        answer,
-        |out, entry| writeln!(out, "STARTS {} {}", entry.tick, entry.slot),
-    )?;
+    for _ in 0..further {
+        admit_lent(book, clock, network, ends);
+    }
+    let Stepped { answer, book } = admit_lent(book, clock, network, ends);
+    match answer {
+        Ok(entry) => writeln!(out, "STARTS {} {}", entry.tick, entry.slot)?,
+        Err(refusal) => writeln!(out, "{refusal}")?,
+    }
     Ok(book)
 }
 
@@ -109,11 +110,14 @@ fn ask<W: Write>(
     ends: Ends,
     book: Book,
 ) -> io::Result<()> {
-    let answer = often(further, || may_start_lent(book, t, network, ends));
-    print::answer(out, answer, |out, forbids| match forbids {
-        None => writeln!(out, "MAY"),
-        Some(slot) => writeln!(out, "FORBIDS {slot}"),
-    })
+    for _ in 0..further {
+        let _ = may_start_lent(book, t, network, ends);
+    }
+    match may_start_lent(book, t, network, ends) {
+        Ok(None) => writeln!(out, "MAY"),
+        Ok(Some(slot)) => writeln!(out, "FORBIDS {slot}"),
+        Err(refusal) => writeln!(out, "{refusal}"),
+    }
 }
 
 // A call or a question, whose tick stands where a call has its clock value, and the book that the next one
@@ -141,8 +145,8 @@ fn one<W: Write>(
 // A case of either kind. Its network is a job without moves and order, and the book stands behind the job's
 // dwell.
 pub(crate) fn admit<W: Write>(out: &mut W, kind: Kind, s: &[u8], job: &[u8]) -> io::Result<()> {
-    let mut lane_room: [u16; JOB_ROOM] = filled(0);
-    let mut closed_room: [u16; JOB_ROOM] = filled(0);
+    let mut lane_room = job_room();
+    let mut closed_room = job_room();
     let network = loaded_network(job, &mut lane_room, &mut closed_room);
     let from = behind_job(job);
     let further = short_at(s, 4);

@@ -11,8 +11,8 @@ use std::io;
 use std::io::{BufWriter, Read, Write};
 use try_answers::answer;
 use try_batch::kind::Kind;
-use try_batch::payload::{body, filled, front};
-use try_batch::{PAYLOAD_ROOM, next_case};
+use try_batch::payload::{body, front};
+use try_batch::{next_case, payload_room};
 
 fn answer_case<W: Write>(out: &mut W, letter: u8, s: &[u8]) -> io::Result<()> {
     match Kind::try_from(letter) {
@@ -32,7 +32,7 @@ fn answer_case<W: Write>(out: &mut W, letter: u8, s: &[u8]) -> io::Result<()> {
 // A proved loop has to end, and nothing says that the input does. So the loop counts its turns, up to a
 // number that no run uses up.
 fn answer_all<R: Read, W: Write>(input: &mut R, out: &mut W) -> io::Result<()> {
-    let mut space: [u8; PAYLOAD_ROOM] = filled(0);
+    let mut space = payload_room();
     for number in 0..1000000000 {
         let Some(case) = next_case(input, out, number, &mut space)? else {
             return Ok(());

@@ -7,12 +7,12 @@ use records::Record;
 use std::io;
 use std::io::Write;
 use try_batch::kind::Kind;
-use try_batch::marked::{MARK, PLACES, lend, print_runs};
+use try_batch::marked::{MARK, lend, marked_bytes, marked_shorts, print_runs};
 use try_batch::payload::{
-    JOB_ROOM, behind_job, behind_list, behind_network, filled, loaded_list, loaded_network,
-    long_at, short_at,
+    behind_job, behind_list, behind_network, filled, job_room, list_room, loaded_list,
+    loaded_network, long_at, rest, short_at,
 };
-use try_batch::{print, questions};
+use try_batch::print;
 use try_columns::{LENDABLE, made};
 use try_records::{house_lent, judge_lent, plan_lent, read_lent, write_lent};
 
@@ -30,7 +30,7 @@ struct Recorded<'a> {
 }
 
 pub(crate) fn read<W: Write>(out: &mut W, s: &[u8], text: &[u8]) -> io::Result<()> {
-    let mut lanes: [u16; PLACES] = filled(MARK);
+    let mut lanes = marked_shorts();
     let mut closed: [u16; 1100] = filled(MARK);
     let mut order: [u16; 100] = filled(MARK);
     let mut fields: [u32; FIELDS] = filled(MARK as u32);
@@ -45,10 +45,10 @@ pub(crate) fn read<W: Write>(out: &mut W, s: &[u8], text: &[u8]) -> io::Result<(
         &mut fields,
     );
     print::read(out, read)?;
-    print_runs(out, "lanes", &lanes)?;
-    print_runs(out, "closed", &closed)?;
-    print_runs(out, "records", &fields)?;
-    print_runs(out, "order", &order)
+    print_runs(out, b"lanes", &lanes)?;
+    print_runs(out, b"closed", &closed)?;
+    print_runs(out, b"records", &fields)?;
+    print_runs(out, b"order", &order)
 }
 
 // The records whose numbers stand at the front of a payload, of four bytes each.
@@ -62,9 +62,9 @@ fn records_at(s: &[u8]) -> [Record; LENDABLE] {
 
 // A question about a job with records.
 pub(crate) fn ask<W: Write>(out: &mut W, kind: Kind, s: &[u8], job: &[u8]) -> io::Result<()> {
-    let mut lane_room: [u16; JOB_ROOM] = filled(0);
-    let mut closed_room: [u16; JOB_ROOM] = filled(0);
-    let mut order_room: [u16; JOB_ROOM] = filled(0);
+    let mut lane_room = job_room();
+    let mut closed_room = job_room();
+    let mut order_room = job_room();
     let places = behind_list(behind_network(job));
     let recorded = Recorded {
         network: loaded_network(job, &mut lane_room, &mut closed_room),
@@ -82,7 +82,7 @@ pub(crate) fn ask<W: Write>(out: &mut W, kind: Kind, s: &[u8], job: &[u8]) -> io
 }
 
 fn plan<W: Write>(out: &mut W, s: &[u8], job: &Recorded) -> io::Result<()> {
-    let mut table: [u16; PLACES] = filled(MARK);
+    let mut table = marked_shorts();
     let mut fields: [u32; FIELDS] = filled(MARK as u32);
     let planned = plan_lent(
         &job.network,
@@ -94,49 +94,47 @@ fn plan<W: Write>(out: &mut W, s: &[u8], job: &Recorded) -> io::Result<()> {
         &mut fields,
     );
     print::planned(out, planned)?;
-    print_runs(out, "table", &table)?;
-    print_runs(out, "records", &fields)
+    print_runs(out, b"table", &table)?;
+    print_runs(out, b"records", &fields)
 }
 
 fn house<W: Write>(out: &mut W, s: &[u8], job: &Recorded) -> io::Result<()> {
-    let carrier = Carrier(short_at(s, 2));
-    questions::house(out, s, |path| {
-        house_lent(
-            &job.network,
-            job.count,
-            job.order,
-            job.dwell,
-            carrier,
-            path,
-            job.records,
-        )
-    })
+    let mut path: [u16; 1100] = filled(MARK);
+    let housed = house_lent(
+        &job.network,
+        job.count,
+        job.order,
+        job.dwell,
+        Carrier(short_at(s, 2)),
+        lend(&mut path, s, 0),
+        job.records,
+    );
+    print::housed(out, housed, &path)
 }
 
 fn judge<W: Write>(out: &mut W, s: &[u8], job: &Recorded) -> io::Result<()> {
-    let carrier = Carrier(short_at(s, 2));
-    questions::judge(out, s, |list| {
-        judge_lent(
-            &job.network,
-            job.count,
-            job.order,
-            job.dwell,
-            carrier,
-            list,
-            job.records,
-        )
-    })
+    let mut room = list_room();
+    let judged = judge_lent(
+        &job.network,
+        job.count,
+        job.order,
+        job.dwell,
+        Carrier(short_at(s, 2)),
+        loaded_list(rest(s, 8), &mut room),
+        job.records,
+    );
+    print::judged(out, judged)
 }
 
 fn write<W: Write>(out: &mut W, s: &[u8], job: &Recorded) -> io::Result<()> {
-    questions::write(out, s, |room| {
-        write_lent(
-            &job.network,
-            job.count,
-            job.order,
-            job.dwell,
-            room,
-            job.records,
-        )
-    })
+    let mut bytes = marked_bytes();
+    let written = write_lent(
+        &job.network,
+        job.count,
+        job.order,
+        job.dwell,
+        lend(&mut bytes, s, 0),
+        job.records,
+    );
+    print::written(out, written, &bytes)
 }

@@ -12,7 +12,7 @@ use std::io;
 use std::io::Write;
 use try_batch::marked::{MARK, lend, print_runs};
 use try_batch::payload::{
-    JOB_ROOM, behind_job, behind_list, filled, loaded_list, loaded_network, long_at, rest, short_at,
+    behind_job, behind_list, filled, job_room, loaded_list, loaded_network, long_at, rest, short_at,
 };
 use try_book::admit_all_lent;
 
@@ -58,7 +58,7 @@ fn ride<W: Write>(
     book: Book,
 ) -> io::Result<Book> {
     let clock = long_at(s, 0);
-    let mut room: [u16; JOB_ROOM] = filled(0);
+    let mut room = job_room();
     let moves = loaded_list(rest(s, MOVES_AT), &mut room);
     if short_at(s, 4) == ONE_BY_ONE {
         return one_by_one(out, further, clock, network, moves, book);
@@ -70,14 +70,14 @@ fn ride<W: Write>(
     let mut ticks: [u32; 100] = filled(MARK as u32);
     let Rode { ended, book } = admit_all_lent(book, clock, network, moves, lend(&mut ticks, s, 4));
     print_ended(out, ended)?;
-    print_runs(out, "ticks", &ticks)?;
+    print_runs(out, b"ticks", &ticks)?;
     Ok(book)
 }
 
 // The question. Its network is a job without moves and order, and the book stands behind the job's dwell.
 pub(crate) fn admit_all<W: Write>(out: &mut W, s: &[u8], job: &[u8]) -> io::Result<()> {
-    let mut lane_room: [u16; JOB_ROOM] = filled(0);
-    let mut closed_room: [u16; JOB_ROOM] = filled(0);
+    let mut lane_room = job_room();
+    let mut closed_room = job_room();
     let network = loaded_network(job, &mut lane_room, &mut closed_room);
     let from = behind_job(job);
     let further = short_at(s, 4);
