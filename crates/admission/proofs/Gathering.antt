@@ -2,17 +2,16 @@
 -- ticks: one more slot written at the next place leaves the earlier ones. A filled list permits what the
 -- pairs of all slots permit. Assumes nothing.
 --     GatheredTo    the first n places hold the first n slots
-use mathlib.Core.Path.{◌≡◌, sym, ◌∙◌, ap, subst}
+use mathlib.Core.Path.{◌≡◌, ◌∙◌, subst}
 use mathlib.Core.List.{List}
 use Prim.Native.Nat.{ℕ, ◌+◌, ◌<◌}
 use native.Mathlib.Nat.{not-suc-le-zero}
 use native.Mathlib.Decide.{dec_lt}
 use native.Mathlib.Omega.{arith}
-use lib.ListN.{length, set}
+use lib.ListN.{length}
 use Rattle.hall.specs.Ticks.{SmallestFrom, PermittedBy}
 use Rattle.rule.specs.declared.Held.{Held}
-use Rattle.rule.specs.declared.Pair.{Pair as Six}
-use Rattle.rule.specs.Held.{pair_in, held_tick, held_pair, held_with}
+use Rattle.rule.specs.Held.{held_tick, held_pair, held_with}
 use Rattle.rule.proofs.Carry.{smallest_same}
 use Rattle.rule.proofs.Holding.{held_length, held_tick_lem, held_pair_lem, earlier_tick, earlier_pair}
 use Rattle.slots.specs.declared.Slot.{Slot}
@@ -42,10 +41,8 @@ module _ (rows : Rows) (own : ℕ) (slots : List Slot) where
     next_pair p h (no k) = let e : p ≡ n = omega arith in rw e (held_pair_lem held n _ _ fits)
 
     -- one slot more, with its pair
-    pub gathered_more : {pair : Six} → pair_in pair ≡ pair_for rows own (slot_at slots n)
-        → GatheredTo (set held n (record { tick = (slot_at slots n).tick; pair = pair })) (n + 1)
-    unfolding held_with
-    gathered_more {pair} e = subst (λ (h : List Held). GatheredTo h (n + 1)) (ap (held_with held n (slot_at slots n).tick) (sym e)) (record {
+    pub gathered_more : (held' : List Held) → held' ≡ next → GatheredTo held' (n + 1)
+    gathered_more held' e = rw e (record {
       size = held_length held n _ _ ∙ g.size;
       ticks = λ p h. next_tick p h (dec_lt p n);
       pairs = λ p h. next_pair p h (dec_lt p n);

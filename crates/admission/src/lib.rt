@@ -60,15 +60,15 @@ fn entered(book: Book, place: usize, carrier: Slot) -> Stepped
       book = book_with book.clock book.dwell (set book.slots place carrier);
     } }
 {
-    let mut left = book;
-    left.slots[place] = carrier;
+    let mut left = book.slots;
+    left[place] = carrier;
     let entry = Entry {
         tick: carrier.tick,
         slot: place,
     };
     Stepped {
         answer: Ok(entry),
-        book: left,
+        book: Book::with_slots(book.clock, book.dwell, left),
     }
 }
 

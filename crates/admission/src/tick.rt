@@ -4,7 +4,8 @@
 ghost use Rattle.admission.specs.Steps.{OnRows, TickFor};
 
 use crate::rows::{Rows, pair_for};
-use rule::{Held, first_tick};
+use hall::Place;
+use rule::{Held, first_tick, hold};
 use slots::Book;
 
 // The smallest tick from now up that every carrier held permits to a move with these rows.
@@ -15,10 +16,7 @@ pub(crate) fn first_for(book: &Book, from: u32, own: u16, rows: &Rows) -> u64
     let mut held = [Held::default(); Book::SLOTS];
     for i in 0..Book::SLOTS {
         let slot = book.slots[i];
-        held[i] = Held {
-            tick: slot.tick,
-            pair: pair_for(slot, own, rows),
-        };
+        hold(&mut held, Place(i), slot.tick, pair_for(slot, own, rows));
     }
     first_tick(&held, book.dwell, from)
 }
