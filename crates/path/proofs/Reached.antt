@@ -48,12 +48,12 @@ module _ (N : Network) (s g : ℕ) (sound : None (move_ends N s g)) where
 
   module _ {row left : List ℕ} (filled : RowFilled N g row left) where
     pub walk_missing : get_or left s 0 ≡ no_walk_mark
-        → MoveReached N s g (Err (record { fault = Unreachable; place = 0 }))
+        → MoveReached N s g left (Err (record { fault = Unreachable; place = 0 }))
     walk_missing e =
         let marked = marked_none (filled.holds s facts.start_open.numbered) e in
         first_after sound (asked_here (λ n w. marked n (reverse (lanes_symmetric N) w)))
 
-    pub walk_there : length row ≡ node_limit → get_or left s 0 ≢ no_walk_mark → MoveReached N s g (Ok left)
+    pub walk_there : length row ≡ node_limit → get_or left s 0 ≢ no_walk_mark → MoveReached N s g left (Ok tt)
     walk_there size h =
         let there = (start_distance down).walk in
         (none_append sound (asked_clear (λ none. none (get_or (take N.nodes left) s 0) there) none_at_all), down, sized)

@@ -2,7 +2,7 @@
 -- promise them to each other. N is the network, s and g are the move's start and goal.
 --     Downhill       a row with the distance of every node to the goal, and the start is reached
 --     MoveReached    what the checks of a move without a list answer: 2, 3, 12, 4, 5, 13, 8; where none holds,
---                    a row that is downhill as far as there are nodes
+--                    the row is downhill as far as there are nodes
 --     Next           node v is a neighbour of u, at the wanted distance
 --     Leads          one end of a lane leads from u to a node b at the wanted distance
 --     lower_of       the lower of the best so far, if there is one, and a node
@@ -33,10 +33,10 @@ pub record Downhill (N : Network) (s g : ℕ) (row : List ℕ) : Type 0 where
   pub numbered : s < N.nodes
   pub reached : get_or row s 0 ≢ no_walk_mark
 
-abbrev pub MoveReached : (N : Network) (s g : ℕ) → Result (List ℕ) Refusal → Type 0
-MoveReached N s g (Ok row) = None (move_question N s g) × Downhill N s g (take N.nodes row)
+abbrev pub MoveReached : (N : Network) (s g : ℕ) (row : List ℕ) → Result Unit Refusal → Type 0
+MoveReached N s g row (Ok u) = None (move_question N s g) × Downhill N s g (take N.nodes row)
     × (length (take N.nodes row) ≡ N.nodes)
-MoveReached N s g (Err r) = First (move_question N s g) (number_of r.fault) r.place
+MoveReached N s g row (Err r) = First (move_question N s g) (number_of r.fault) r.place
 
 pub record Next (nodes : ℕ) (lanes row : List ℕ) (u wanted v : ℕ) : Type 0 where
   pub numbered : v < nodes

@@ -18,18 +18,18 @@ ghost use Rattle.path.specs.Steps.{Downhill, MoveReached, Nearer, LowestNext, La
 
 use hall::{Ends, Fault, Job, Network, Refusal};
 
-// The checks of a move: 2, 3, 12, 4, 5, 13 and 8. Where none holds, the answer is the row with each node's
-// distance to the goal.
-fn check_reached(network: &Network, ends: Ends) -> Result<[u16; Job::NODES], Refusal>
-    ensures { MoveReached (network_in network.now) ends.start ends.goal result }
+// The checks of a move: 2, 3, 12, 4, 5, 13 and 8. Where none holds, the row has each node's distance to the
+// goal. It is lent: handed back by value it would be copied twice.
+fn check_reached(network: &Network, ends: Ends, row: &mut [u16]) -> Result<(), Refusal>
+    requires { length row.old ≡ node_limit }
+    ensures { MoveReached (network_in network.now) ends.start ends.goal row.new result }
 {
     network::checks::check_move(network, ends)?;
-    let mut row = [0; Job::NODES];
-    walk::distances(network, ends.goal, &mut row);
+    walk::distances(network, ends.goal, row);
     if row[ends.start as usize] == Job::NO_WALK {
         return Err(Refusal::new(Fault::Unreachable, 0));
     }
-    Ok(row)
+    Ok(())
 }
 
 // One end of a lane, seen from node u: if the lane leads from u to a node b at the wanted distance, the lower
@@ -99,7 +99,8 @@ pub fn house(network: &Network, ends: Ends, path: &mut [u16]) -> Result<usize, R
         return Err(Refusal::new(Fault::ShortTable, 0));
     }
     hall::zero::fill_first(path, Job::NODES, 0);
-    let row = check_reached(network, ends)?;
+    let mut row = [0; Job::NODES];
+    check_reached(network, ends, &mut row)?;
     let count = lay(network.lanes, &row[..network.nodes], ends, path);
     Ok(count)
 }
@@ -147,7 +148,8 @@ pub fn judge(network: &Network, ends: Ends, list: &[u16]) -> Result<(), Refusal>
         list.now list.now
         result }
 {
-    let reached = check_reached(network, ends)?;
+    let mut reached = [0; Job::NODES];
+    check_reached(network, ends, &mut reached)?;
     let row = &reached[..network.nodes];
     let whole = row[ends.start as usize] as usize + 1;
     if list.len() == whole && all_on_way(row, list) && walks(network.lanes, ends, list) {

@@ -10,15 +10,15 @@ use Rattle.path.proofs.judge.Goals.{else-list-whole-via-then-list-whole+then-all
 use Rattle.path.proofs.judge.Goals.{else-list-whole-via-then-list-whole+else-all_on_way}
 use Rattle.path.proofs.judge.Goals.{else-list-whole-via-else-list-whole}
 
-pub returns-in_err-reached : goal.returns-in_err-reached
-returns-in_err-reached c =
+pub returns-in_err-check_reached : goal.returns-in_err-check_reached
+returns-in_err-check_reached c =
     let p = err_from_is_err_and c.from_residual.result c.from_residual.ensures.1 in
     rw (p.1, p.2)
-    (record { judged = first_before _ c.in_err-reached.ensures; network_kept = refl; list_kept = refl })
+    (record { judged = first_before _ c.in_err-check_reached.ensures; network_kept = refl; list_kept = refl })
 
 pub returns-then-walks : goal.returns-then-walks
 returns-then-walks c =
-    let reached = c.in_ok-reached.ensures in
+    let reached = c.in_ok-check_reached.ensures in
     record {
       judged =
           list_passes _ _ _ _ reached.0 reached.1 c.if-list-whole.true
@@ -29,7 +29,7 @@ returns-then-walks c =
 
 pub returns : goal.returns
 returns c =
-    let reached = c.in_ok-reached.ensures in
+    let reached = c.in_ok-check_reached.ensures in
     rw c.new.ensures
     (record {
       judged =
