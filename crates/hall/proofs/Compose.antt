@@ -1,7 +1,7 @@
 -- Questions one after the other. A first fault of a is the first of a ++ b; where a is sound, what b answers
 -- is what a ++ b answers; and each answer of a ++ b comes so. All by induction over a. Functions that check
--- one after the other cite `judged_stop` where a callee's refusal is returned, and `judged_then` where they
--- go on. Assumes nothing.
+-- one after the other cite `first_before` and `first_after` where a callee's refusal is returned, and
+-- `judged_then` or `none_append` where they go on. Assumes nothing.
 --     a ⇒ b         each answer of a is one of b; within a longer question too, b may then stand for a
 --     Alike s t     at each place, what s answers there t answers
 use mathlib.Core.Path.{◌≡◌, ◌∙◌}

@@ -4,6 +4,7 @@ pub mod Limits
 pub mod Floor
 pub mod Job
 pub mod Numbers
+pub mod Printed
 pub mod Stages
 pub mod Said
 pub mod Refusals
