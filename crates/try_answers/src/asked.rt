@@ -8,7 +8,7 @@ use planner::plan_moves;
 use std::io;
 use std::io::Write;
 use try_batch::kind::Kind;
-use try_batch::marked::{MARK, lend, marked_bytes, marked_shorts, print_runs};
+use try_batch::marked::{MARK, lend, marked_bytes, marked_shorts, print_runs, print_written};
 use try_batch::payload::{behind_list, filled, list_room, loaded_list, rest, short_at};
 use try_batch::print;
 use writer::write_numbers;
@@ -55,7 +55,8 @@ fn print_house_for<W: Write>(
 ) -> io::Result<()> {
     let mut path: [u16; 1100] = filled(MARK);
     let housed = house_for(job, carrier, lend(&mut path, s, 0));
-    print::housed(out, housed, &path)
+    print::housed(out, housed)?;
+    print_runs(out, b"path", &path)
 }
 
 fn print_judged_for<W: Write>(
@@ -77,7 +78,7 @@ fn write<W: Write>(out: &mut W, s: &[u8], job: &JobNumbers) -> io::Result<()> {
         let _ = write_numbers(job, lend(&mut bytes, s, 0));
     }
     let written = write_numbers(job, lend(&mut bytes, s, 0));
-    print::written(out, written, &bytes)
+    print_written(out, written, &bytes)
 }
 
 // ---- questions about a move
@@ -93,7 +94,8 @@ fn ends_in(s: &[u8]) -> Ends {
 fn print_house<W: Write>(out: &mut W, s: &[u8], network: &Network) -> io::Result<()> {
     let mut path: [u16; 1100] = filled(MARK);
     let housed = house(network, ends_in(s), lend(&mut path, s, 0));
-    print::housed(out, housed, &path)
+    print::housed(out, housed)?;
+    print_runs(out, b"path", &path)
 }
 
 fn print_judged<W: Write>(out: &mut W, s: &[u8], network: &Network) -> io::Result<()> {

@@ -6,7 +6,8 @@ ghost use Rattle.std.specs.Prelude.{◌≡◌, take, replicate};
 ghost use Rattle.try_batch.specs.Payloads.{short_in};
 ghost use Rattle.try_batch.specs.Marked.{short_places, short_mark, byte_places, byte_mark};
 
-use super::payload::{filled, short_at};
+use super::payload::{filled, front, rest, short_at};
+use hall::Refusal;
 use std::fmt::Display;
 use std::io;
 use std::io::Write;
@@ -55,4 +56,24 @@ pub fn print_runs<W: Write, T: PartialEq + Display>(
         write!(out, " {}x{}", run.len(), run[0])?;
     }
     writeln!(out)
+}
+
+// The answer to writing a job, the text as it is, and what all bytes behind it hold: after a refusal that is
+// all there are.
+pub fn print_written<W: Write>(
+    out: &mut W,
+    written: Result<usize, Refusal>,
+    bytes: &[u8],
+) -> io::Result<()> {
+    match written {
+        Ok(count) => {
+            writeln!(out, "BYTES {count}")?;
+            out.write_all(front(bytes, count))?;
+            print_runs(out, b"out", rest(bytes, count))
+        }
+        Err(refusal) => {
+            writeln!(out, "{refusal}")?;
+            print_runs(out, b"out", bytes)
+        }
+    }
 }

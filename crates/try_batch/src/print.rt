@@ -1,23 +1,24 @@
 // Printing answers. What is written goes to the writer that is lent; where a function answers nothing, that it
 // is safe and ends is all there is to promise. An error that it answers is the writer's.
-use super::marked::print_runs;
-use super::payload::{front, rest};
 use hall::{Job, Refusal};
 use std::io;
 use std::io::Write;
 
 // The counts of a job that was read, and its dwell.
+fn counts<W: Write>(out: &mut W, job: Job) -> io::Result<()> {
+    let Job {
+        nodes,
+        lanes,
+        closed,
+        carriers,
+        dwell,
+    } = job;
+    writeln!(out, "READ {nodes} {lanes} {closed} {carriers} {dwell}")
+}
+
 pub fn read<W: Write>(out: &mut W, read: Result<Job, Refusal>) -> io::Result<()> {
     match read {
-        Ok(
-            Job {
-                nodes,
-                lanes,
-                closed,
-                carriers,
-                dwell,
-            },
-        ) => writeln!(out, "READ {nodes} {lanes} {closed} {carriers} {dwell}"),
+        Ok(job) => counts(out, job),
         Err(refusal) => writeln!(out, "{refusal}"),
     }
 }
@@ -29,17 +30,11 @@ pub fn planned<W: Write>(out: &mut W, planned: Result<u32, Refusal>) -> io::Resu
     }
 }
 
-// The answer to a question for a house path, and what the whole table holds of which the front was lent for it.
-pub fn housed<W: Write>(
-    out: &mut W,
-    housed: Result<usize, Refusal>,
-    table: &[u16],
-) -> io::Result<()> {
+pub fn housed<W: Write>(out: &mut W, housed: Result<usize, Refusal>) -> io::Result<()> {
     match housed {
-        Ok(count) => writeln!(out, "PATH {count}")?,
-        Err(refusal) => writeln!(out, "{refusal}")?,
+        Ok(count) => writeln!(out, "PATH {count}"),
+        Err(refusal) => writeln!(out, "{refusal}"),
     }
-    print_runs(out, b"path", table)
 }
 
 pub fn judged<W: Write>(out: &mut W, judged: Result<(), Refusal>) -> io::Result<()> {
@@ -58,25 +53,5 @@ pub fn chosen<W: Write>(out: &mut W, list: &[u16], own: &[u16]) -> io::Result<()
         writeln!(out, "OWN")
     } else {
         writeln!(out, "SPARE")
-    }
-}
-
-// The answer to writing a job, the text as it is, and what all bytes behind it hold: after a refusal that is
-// all there are.
-pub fn written<W: Write>(
-    out: &mut W,
-    written: Result<usize, Refusal>,
-    bytes: &[u8],
-) -> io::Result<()> {
-    match written {
-        Ok(count) => {
-            writeln!(out, "BYTES {count}")?;
-            out.write_all(front(bytes, count))?;
-            print_runs(out, b"out", rest(bytes, count))
-        }
-        Err(refusal) => {
-            writeln!(out, "{refusal}")?;
-            print_runs(out, b"out", bytes)
-        }
     }
 }

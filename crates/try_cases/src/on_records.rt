@@ -7,7 +7,7 @@ use records::Record;
 use std::io;
 use std::io::Write;
 use try_batch::kind::Kind;
-use try_batch::marked::{MARK, lend, marked_bytes, marked_shorts, print_runs};
+use try_batch::marked::{MARK, lend, marked_bytes, marked_shorts, print_runs, print_written};
 use try_batch::payload::{
     behind_job, behind_list, behind_network, filled, job_room, list_room, loaded_list,
     loaded_network, long_at, rest, short_at,
@@ -109,7 +109,8 @@ fn house<W: Write>(out: &mut W, s: &[u8], job: &Recorded) -> io::Result<()> {
         lend(&mut path, s, 0),
         job.records,
     );
-    print::housed(out, housed, &path)
+    print::housed(out, housed)?;
+    print_runs(out, b"path", &path)
 }
 
 fn judge<W: Write>(out: &mut W, s: &[u8], job: &Recorded) -> io::Result<()> {
@@ -136,5 +137,5 @@ fn write<W: Write>(out: &mut W, s: &[u8], job: &Recorded) -> io::Result<()> {
         lend(&mut bytes, s, 0),
         job.records,
     );
-    print::written(out, written, &bytes)
+    print_written(out, written, &bytes)
 }
